@@ -1,0 +1,9 @@
+pub mod Gate
+pub mod Deed
+pub mod Ref
+pub mod Cell
+pub mod Header
+pub mod Need
+pub mod Hash
+pub mod Bytes
+pub mod Format
