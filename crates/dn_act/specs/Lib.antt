@@ -1,0 +1,3 @@
+pub mod Words
+pub mod Action
+pub mod Calls
