@@ -1,0 +1,4 @@
+pub mod Calls
+pub mod Receipt
+pub mod CallersOrder
+pub mod Replay
