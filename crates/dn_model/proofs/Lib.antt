@@ -1,0 +1,13 @@
+pub mod ProgramLaws
+pub mod RegisterLaws
+pub mod HistoryLaws
+pub mod RegisterSteps
+pub mod IndexLaws
+pub mod HashLaws
+pub mod LogLaws
+pub mod HeldLaws
+pub mod MapLaws
+pub mod FrameLaws
+pub mod PieceLaws
+pub mod ChainLaws
+pub mod SettleLaws

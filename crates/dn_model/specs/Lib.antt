@@ -1,0 +1,11 @@
+pub mod Regions
+pub mod Log
+pub mod Same
+pub mod Index
+pub mod Held
+pub mod PoolMap
+pub mod OneLog
+pub mod Register
+pub mod Program
+pub mod Pieces
+pub mod Told
