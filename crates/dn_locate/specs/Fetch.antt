@@ -1,0 +1,210 @@
+use Rattle.std.specs.Prelude.{◌≡◌, ◌≢◌, ℕ, ◌+◌, ◌-◌, ◌*◌, ◌/◌, ◌%◌, ◌^◌, ◌<◌, ◌≤◌, ◌++◌, ◌∷◌, [], ◌&&◌, ◌==◌, Bool, true, false, List, length, Option, Some, None, not, if◌then◌else◌}
+use Rattle.dn_word.specs.Ref.{ref_of}
+use Rattle.dn_word.specs.declared.packed.place.Ref.{Ref}
+use Rattle.dn_act.specs.declared.actions.Action.{Action}
+use Rattle.dn_act.specs.declared.actions.Action.TheVariants.{Load}
+use Rattle.dn_record.specs.Head.{head_words}
+use Rattle.dn_record.specs.Reading.{head_in}
+use Rattle.dn_record.specs.declared.heads.Head.{Head}
+use Rattle.dn_record.specs.declared.heads.Head.TheVariants.{Put, Delete, Share, Unshare, Loose, LooseDelete, Pad}
+use Rattle.dn_locate.specs.declared.fetches.Wish.{Wish}
+use Rattle.dn_locate.specs.declared.fetches.Wish.TheVariants.{Value, Kind, Place}
+use Rattle.dn_locate.specs.declared.fetches.FetchPlace.{FetchPlace}
+use Rattle.dn_locate.specs.declared.fetches.FetchPlace.TheVariants.{Idle, Directory, Header, Content, Link}
+use Rattle.dn_locate.specs.declared.fetches.FetchTurn.{FetchTurn}
+use Rattle.dn_locate.specs.declared.fetches.FetchTurn.TheVariants.{More, Done, Absent}
+use Rattle.dn_locate.specs.declared.steps.Rest.{Rest}
+use Rattle.dn_locate.specs.declared.steps.Rest.TheVariants.{Nothing, Words, Linked}
+use Rattle.dn_locate.specs.declared.steps.FetchStep.{FetchStep}
+
+-- a fetch: the key that is wanted, what it is to bring, where the record stands, where the fetch is in its loads, the record's words so far, and how many more Unshares it follows
+pub record Fetching : Type 0 where
+  pub key : ℕ
+  pub wish : Wish
+  pub at : Ref
+  pub place : FetchPlace
+  pub words : List ℕ
+  pub follows : ℕ
+
+-- none is under way
+abbrev pub idle : Fetching
+idle = record { key = 0; wish = Kind; at = record { lane = 0; offset = 0 }; place = Idle; words = []; follows = 0 }
+
+-- one begins, with nothing loaded
+abbrev pub started : Fetching → ℕ → Ref → Wish → Fetching
+started f key at wish = record { key = key; wish = wish; at = at; place = Directory; words = []; follows = 4096 }
+
+-- whether a word is loaded next
+abbrev pub is_loading : FetchPlace → Bool
+is_loading Idle = false
+is_loading Directory = true
+is_loading (Header from) = true
+is_loading (Content from count) = true
+is_loading (Link from) = true
+
+abbrev pub is_under_way : Fetching → Bool
+is_under_way f = is_loading f.place
+
+-- whether a directory word is loaded next
+abbrev pub is_directory : FetchPlace → Bool
+is_directory Idle = false
+is_directory Directory = true
+is_directory (Header from) = false
+is_directory (Content from count) = false
+is_directory (Link from) = false
+
+-- the lane's directory word of the offset's segment
+abbrev pub directory_of : Ref → ℕ
+directory_of at = 1024 + 256 * at.lane + at.offset / 1024
+
+-- the pool's word of the offset; the directory word is the number of its segment plus 1
+abbrev pub from_of : Ref → ℕ → ℕ
+from_of at word = 98304 + 1024 * (word - 1) + at.offset % 1024
+
+-- the loads: the directory word, then the record's words in their order
+abbrev pub next_at : Fetching → FetchPlace → Action
+next_at f Idle = Load 0
+next_at f Directory = Load (directory_of f.at)
+next_at f (Header from) = Load from
+next_at f (Content from count) = Load (from + length f.words)
+next_at f (Link from) = Load (from + length f.words)
+
+abbrev pub fetch_next : Fetching → Action
+fetch_next f = next_at f f.place
+
+-- what is loaded behind a header: a value for a get, the place of what an Unshare left, a shared key's cell
+abbrev pub rest_of : Head → Wish → Rest
+rest_of (Put bytes) Value = Words (head_words (Put bytes))
+rest_of (Put bytes) Kind = Nothing
+rest_of (Put bytes) Place = Nothing
+rest_of (Loose bytes) Value = Words (head_words (Loose bytes))
+rest_of (Loose bytes) Kind = Nothing
+rest_of (Loose bytes) Place = Nothing
+rest_of Delete wish = Nothing
+rest_of LooseDelete wish = Nothing
+rest_of Unshare Value = Linked
+rest_of Unshare Kind = Nothing
+rest_of Unshare Place = Words 3
+rest_of (Share cell) wish = Words 3
+rest_of (Pad words) wish = Nothing
+
+-- the fetch ends
+abbrev pub ended : FetchTurn → FetchStep
+ended turn = record { place = Idle; turn = turn; follow = None }
+
+-- it goes on at a place
+abbrev pub on : FetchPlace → FetchStep
+on place = record { place = place; turn = More; follow = None }
+
+-- it goes on with another record
+abbrev pub followed : Ref → FetchStep
+followed at = record { place = Directory; turn = More; follow = Some at }
+
+-- after the header
+abbrev pub by_rest : ℕ → Rest → FetchStep
+by_rest from Nothing = ended Done
+by_rest from (Words count) = on (Content from count)
+by_rest from Linked = on (Link from)
+
+abbrev pub headed : ℕ → Wish → Option Head → FetchStep
+headed from wish None = ended Absent
+headed from wish (Some head) = by_rest from (rest_of head wish)
+
+-- after the word with this number of a record of which so many are loaded; number 1 is the key
+abbrev pub contained : ℕ → ℕ → ℕ → ℕ → ℕ → FetchStep
+contained key from count number word =
+    if (number == 1) && not (word == key) then ended Absent
+    else (if number + 1 == count then ended Done else on (Content from count))
+
+-- after the third word of an Unshare: its place is followed, where it has one
+abbrev pub reached : ℕ → Option Ref → FetchStep
+reached follows None = ended Done
+reached follows (Some at) = if follows == 0 then ended Done else followed at
+
+-- after the second or third word of an Unshare
+abbrev pub linked : ℕ → ℕ → ℕ → ℕ → ℕ → FetchStep
+linked key from follows number word =
+    if number == 1 then (if word == key then on (Link from) else ended Absent)
+    else reached follows (ref_of word)
+
+abbrev pub step_in : Fetching → ℕ → FetchPlace → FetchStep
+step_in f word Idle = ended Absent
+step_in f word Directory = on (Header (from_of f.at word))
+step_in f word (Header from) = headed from f.wish (head_in word)
+step_in f word (Content from count) = contained f.key from count (length f.words) word
+step_in f word (Link from) = linked f.key from f.follows (length f.words) word
+
+abbrev pub fetch_step : Fetching → ℕ → FetchStep
+fetch_step f word = step_in f word f.place
+
+-- how the fetch goes on once a load found this word
+abbrev pub fetch_turn : Fetching → ℕ → FetchTurn
+fetch_turn f word = (fetch_step f word).turn
+
+-- a word of the record joins those before it; the record that is followed begins with none
+abbrev pub joined : Fetching → ℕ → FetchPlace → Option Ref → Fetching
+joined f word place None = record f { place = place; words = f.words ++ word ∷ [] }
+joined f word place (Some at) = record f { at = at; place = place; words = []; follows = f.follows - 1 }
+
+abbrev pub after_in : Fetching → ℕ → FetchPlace → FetchStep → Fetching
+after_in f word Idle step = f
+after_in f word Directory step = record f { place = step.place }
+after_in f word (Header from) step = joined f word step.place step.follow
+after_in f word (Content from count) step = joined f word step.place step.follow
+after_in f word (Link from) step = joined f word step.place step.follow
+
+abbrev pub fetch_after : Fetching → ℕ → Fetching
+fetch_after f word = after_in f word f.place (fetch_step f word)
+
+-- a header outside the grammar, or another key word
+abbrev pub IsAstray : Fetching → ℕ → FetchPlace → Type 0
+IsAstray f word Idle = ⊥
+IsAstray f word Directory = ⊥
+IsAstray f word (Header from) = head_in word ≡ None
+IsAstray f word (Content from count) = (length f.words ≡ 1) × (word ≢ f.key)
+IsAstray f word (Link from) = (length f.words ≡ 1) × (word ≢ f.key)
+
+-- a directory word names a segment of the pool
+abbrev pub IsDirectory : FetchPlace → ℕ → Type 0
+IsDirectory Idle word = Unit {0}
+IsDirectory Directory word = (0 < word) × (word ≤ 8192)
+IsDirectory (Header from) word = Unit {0}
+IsDirectory (Content from count) word = Unit {0}
+IsDirectory (Link from) word = Unit {0}
+
+-- a bound on the loads that are left of the record
+abbrev pub left_in : ℕ → FetchPlace → ℕ
+left_in number Idle = 0
+left_in number Directory = 140
+left_in number (Header from) = 139
+left_in number (Content from count) = count - number
+left_in number (Link from) = 3 - number
+
+-- and of all that are followed
+abbrev pub fetch_left : Fetching → ℕ
+fetch_left f = 140 * f.follows + left_in (length f.words) f.place
+
+-- how many words are loaded at a place
+abbrev pub FitsAt : ℕ → FetchPlace → Type 0
+FitsAt number Idle = Unit {0}
+FitsAt number Directory = number ≡ 0
+FitsAt number (Header from) = (number ≡ 0) × (from < 8486912)
+FitsAt number (Content from count) = (1 ≤ number) × (number < count) × (count ≤ 133) × (from < 8486912)
+FitsAt number (Link from) = (1 ≤ number) × (number < 3) × (from < 8486912)
+
+-- so many words behind the header are those of a record
+abbrev pub IsRest : Rest → Type 0
+IsRest Nothing = Unit {0}
+IsRest (Words count) = (2 ≤ count) × (count ≤ 133)
+IsRest Linked = Unit {0}
+
+-- a step that a fetch can take once so many words are loaded: one word more, or another record
+abbrev pub FitsStep : ℕ → ℕ → FetchPlace → Option Ref → Type 0
+FitsStep number follows place None = FitsAt (number + 1) place
+FitsStep number follows place (Some at) = (at.offset < 2 ^ 24) × (0 < follows) × (place ≡ Directory)
+
+-- a fetch that the formats bound
+pub record IsFetch (f : Fetching) : Type 0 where
+  pub offset : f.at.offset < 2 ^ 24
+  pub most : length f.words ≤ 133
+  pub fits : FitsAt (length f.words) f.place

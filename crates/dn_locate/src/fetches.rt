@@ -1,0 +1,218 @@
+ghost use Rattle.std.specs.Prelude.{◌≡◌, ◌+◌, ◌*◌, ◌<◌, ◌^◌, ◌↔◌, true, IfOk, IsTrue, length};
+ghost use Rattle.dn_locate.specs.Fetch.{idle, started, fetch_next, fetch_turn, fetch_after, fetch_left, is_under_way, is_directory, IsDirectory, IsAstray, directory_of, from_of, joined, FitsStep};
+ghost use Rattle.dn_locate.specs.Sequence.{Fetches, sequence};
+
+use crate::steps::{FetchStep, after_content, after_header, after_link};
+use dn_act::Action;
+use dn_word::regions::{SEGMENT_WORDS, directory_at, segment_at};
+use dn_word::{OutOfMemory, Ref};
+use std::alloc::Global;
+use std::marker::Model;
+
+/// The most words of a record that are kept: a value of 1,024 bytes has 128, behind a header and a key.
+const ROOM: usize = 133;
+
+/// How many Unshares a fetch follows, so that it ends whatever the pool holds. Of a log that lanes wrote none leads to another.
+const FOLLOWS: u16 = 4096;
+
+/// What a fetch is to bring.
+#[derive(Clone, Copy, Debug, PartialEq, Eq)]
+pub enum Wish {
+    /// The value, for a get. An Unshare is followed to the record that it names.
+    Value,
+    /// The record's kind, for a put or delete; of a shared key the opening word too.
+    Kind,
+    /// What a task needs: of an Unshare the place that it names, of a shared key the opening word.
+    Place,
+}
+
+/// Where a fetch is in its sequence of loads. `from` is the pool's word of the record's header.
+#[derive(Clone, Copy)]
+pub enum FetchPlace {
+    /// No fetch is under way.
+    Idle,
+    /// The directory word of the record's segment is loaded next.
+    Directory,
+    /// The header is next.
+    Header { from: u32 },
+    /// The next word of a record of which `count` words are loaded.
+    Content { from: u32, count: u16 },
+    /// The next word of an Unshare whose place is followed.
+    Link { from: u32 },
+}
+
+/// How a fetch goes on.
+#[derive(Clone, Copy, Debug, PartialEq, Eq)]
+pub enum FetchTurn {
+    /// There is a next action.
+    More,
+    /// The words that were wished for are there.
+    Done,
+    /// There is no record of the key: a loaded header says no record, or the loaded key is another one.
+    Absent,
+}
+
+/// The fetch of the record at a place, load by load: the lane's directory word, the header, and by kind and wish the words behind it.
+/// Only `new` takes memory.
+#[derive(Drop)]
+pub struct Fetch {
+    key: u64,
+    wish: Wish,
+    at: Ref,
+    place: FetchPlace,
+    words: Vec<u64>,
+    follows: u16,
+}
+
+impl Model for Fetch {
+    ghost use Rattle.std.specs.Prelude.{◌≤◌, vec_capacity};
+    ghost use Rattle.dn_locate.specs.Fetch.{Fetching, IsFetch};
+
+    ghost Value = { Fetching };
+
+    ghost view = { λ f. record { key = f.key; wish = f.wish; at = f.at; place = f.place; words = f.words.items; follows = f.follows } };
+
+    ghost invariant = { λ f. (133 ≤ vec_capacity f.words) × IsFetch (record { key = f.key; wish = f.wish; at = f.at; place = f.place; words = f.words.items; follows = f.follows }) };
+}
+
+/// The directory word of a place's segment.
+fn directory(at: Ref) -> u32
+    requires { at.offset < 2 ^ 24 }
+    ensures { result ≡ directory_of at }
+{
+    directory_at(0, 0) + 256 * at.lane as u32 + at.offset / SEGMENT_WORDS
+}
+
+/// The pool's word of a place, by its directory word.
+fn word_of(at: Ref, directory: u64) -> u32
+    requires least { 0 < directory }
+    requires most { directory < 8193 }
+    ensures value { result ≡ from_of at directory }
+    ensures below { result < 8486912 }
+{
+    segment_at(directory as u32 - 1) + at.offset % SEGMENT_WORDS
+}
+
+impl Fetch {
+    /// No fetch is under way. Answers want of memory, or the fetch with its room for 133 words.
+    pub fn new(alloc: Global) -> Result<Fetch, OutOfMemory>
+        ensures { IfOk result (λ fetch. fetch ≡ idle) }
+    {
+        let words = Vec::with_capacity(alloc, ROOM).map_err(|_| OutOfMemory)?;
+        Ok(Fetch {
+            key: 0,
+            wish: Wish::Kind,
+            at: Ref { lane: 0, offset: 0 },
+            place: FetchPlace::Idle,
+            words,
+            follows: 0,
+        })
+    }
+
+    /// Begins the fetch of a key's record at a place, whatever was under way.
+    pub fn start(&mut self, key: u64, at: Ref, wish: Wish)
+        requires { at.offset < 2 ^ 24 }
+        ensures value { self.new ≡ started self.old key at wish }
+        ensures sequence { Fetches self.new (sequence 4096 key wish at) }
+    {
+        self.key = key;
+        self.wish = wish;
+        self.at = at;
+        self.place = FetchPlace::Directory;
+        self.words.clear();
+        self.follows = FOLLOWS;
+    }
+
+    /// The next load of the fetch that is under way.
+    pub fn next(&self) -> Action
+        requires { is_under_way self.now ≡ true }
+        ensures { result ≡ fetch_next self.now }
+    {
+        let at = match self.place {
+            FetchPlace::Idle => 0,
+            FetchPlace::Directory => directory(self.at),
+            FetchPlace::Header { from } => from,
+            FetchPlace::Content { from, .. } | FetchPlace::Link { from } => {
+                from + self.words.len() as u32
+            }
+        };
+        Action::Load { at }
+    }
+
+    /// Whether the next load is that of a directory word.
+    pub fn loads_directory(&self) -> bool
+        ensures { result ≡ is_directory self.now.place }
+    {
+        matches!(self.place, FetchPlace::Directory)
+    }
+
+    /// Takes the word that the load found. A directory word is from 1 to 8,192.
+    pub fn take(&mut self, word: u64) -> FetchTurn
+        requires under_way { is_under_way self.old ≡ true }
+        requires directory { IsDirectory self.old.place word }
+        ensures turn { result ≡ fetch_turn self.old word }
+        ensures after { self.new ≡ fetch_after self.old word }
+        ensures goes_on { result ≡ FetchTurn.More ↔ is_under_way self.new ≡ true }
+        ensures absent { result ≡ FetchTurn.Absent ↔ IsAstray self.old word self.old.place }
+        ensures falls { result ≡ FetchTurn.More → fetch_left self.new < fetch_left self.old }
+    {
+        let number = self.words.len();
+        match self.place {
+            FetchPlace::Idle => FetchTurn::Absent,
+            FetchPlace::Directory => {
+                self.place = FetchPlace::Header {
+                    from: word_of(self.at, word),
+                };
+                FetchTurn::More
+            }
+            FetchPlace::Header { from } => { self.join(word, after_header(from, self.wish, word)) }
+            FetchPlace::Content { from, count } => {
+                self.join(word, after_content(self.key, from, count, number, word))
+            }
+            FetchPlace::Link { from } => {
+                self.join(word, after_link(self.key, from, self.follows, number, word))
+            }
+        }
+    }
+
+    /// Takes a word of the record and goes on by a step.
+    fn join(&mut self, word: u64, step: FetchStep) -> FetchTurn
+        requires room { length self.old.words < 133 }
+        requires fits { FitsStep (length self.old.words) self.old.follows step.place step.follow }
+        ensures turn { result ≡ step.turn }
+        ensures after { self.new ≡ joined self.old word step.place step.follow }
+    {
+        match step.follow {
+            None => self.words.push_reserved(word),
+            Some(at) => {
+                self.at = at;
+                self.words.clear();
+                self.follows -= 1;
+            }
+        }
+        self.place = step.place;
+        step.turn
+    }
+
+    /// Whether the word that is loaded next is a directory word.
+    #[cfg(test)]
+    pub(crate) fn is_at_directory(&self) -> bool
+        ensures { IsTrue result ↔ (self.now.place ≡ FetchPlace.Directory) }
+    {
+        matches!(self.place, FetchPlace::Directory)
+    }
+
+    /// The words of the last record that were loaded so far, its header first.
+    pub fn words(&self) -> &[u64]
+        ensures { result.now ≡ self.now.words }
+    {
+        self.words.as_slice()
+    }
+
+    /// Where the last record that was fetched stands.
+    pub fn place(&self) -> Ref
+        ensures { result ≡ self.now.at }
+    {
+        self.at
+    }
+}

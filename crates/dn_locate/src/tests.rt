@@ -1,0 +1,118 @@
+ghost use Rattle.std.specs.Prelude.{◌≡◌, true};
+ghost use Rattle.dn_locate.specs.Fetch.{is_under_way};
+
+use crate::fetches::{Fetch, FetchTurn, Wish};
+use crate::starts::{Start, first};
+use dn_act::{Action, Memory, Sound};
+use dn_word::Ref;
+use std::process::Abort;
+use std::test::Fail;
+
+/// A log of lane 1 with each kind of record on key 5.
+const LOG: [u64; 20] = [
+    // 0: a Put of `a`
+    0x0100010000000300,
+    5,
+    0x61,
+    // 3: a Delete
+    0x0200000000000200,
+    5,
+    // 5: a Share of cell 0, whose opening word names the Put
+    0x0300000000000300,
+    5,
+    0x0000000101000000,
+    // 8: an Unshare that names the Put
+    0x0400000000000300,
+    5,
+    0x0000000001000000,
+    // 11: an Unshare that names nothing
+    0x0400000000000300,
+    5,
+    0,
+    // 14: a Loose of no bytes
+    0x0500000000000200,
+    5,
+    // 16: a LooseDelete
+    0x0600000000000200,
+    5,
+    // 18: the header of a Put with a bit set that no header has
+    0x0100010000000301,
+    5,
+];
+
+/// Key, offset, wish, and then how the fetch ends, at which record, and with how many of its words.
+const FETCHES: [(u64, u32, Wish, FetchTurn, u32, u32); 14] = [
+    (5, 0, Wish::Value, FetchTurn::Done, 0, 3),
+    (5, 0, Wish::Kind, FetchTurn::Done, 0, 1),
+    (5, 0, Wish::Place, FetchTurn::Done, 0, 1),
+    (6, 0, Wish::Value, FetchTurn::Absent, 0, 2),
+    (5, 3, Wish::Value, FetchTurn::Done, 3, 1),
+    (5, 5, Wish::Value, FetchTurn::Done, 5, 3),
+    (5, 5, Wish::Kind, FetchTurn::Done, 5, 3),
+    (5, 8, Wish::Value, FetchTurn::Done, 0, 3),
+    (5, 8, Wish::Kind, FetchTurn::Done, 8, 1),
+    (5, 8, Wish::Place, FetchTurn::Done, 8, 3),
+    (5, 11, Wish::Value, FetchTurn::Done, 11, 3),
+    (5, 14, Wish::Value, FetchTurn::Done, 14, 2),
+    (5, 16, Wish::Value, FetchTurn::Done, 16, 1),
+    (5, 18, Wish::Value, FetchTurn::Absent, 18, 1),
+];
+
+/// Loads until the fetch ends.
+fn finish(rt: &impl Abort, pool: &Sound, fetch: &mut Fetch) -> FetchTurn
+    requires { is_under_way fetch.old ≡ true }
+{
+    for _ in 0..200 {
+        let Action::Load { at } = fetch.next() else {
+            panic!(rt; "a fetch only loads");
+        };
+        assert!(rt; at < pool.size());
+        let word = pool.word(at);
+        assert!(rt; !fetch.is_at_directory() || 0 < word && word <= 8192);
+        match fetch.take(word) {
+            FetchTurn::More => {}
+            turn => return turn,
+        }
+    }
+    FetchTurn::More
+}
+
+#[test]
+fn each_kind_is_fetched_as_it_is_wished(rt: HostRuntime) -> Result<(), Fail> {
+    let mut pool = Sound::new(rt.alloc(), 1)?;
+    assert!(rt; 1280 < pool.size());
+    pool.store(1280, 1)?;
+    for (offset, word) in LOG.iter().enumerate() {
+        let at = 98304 + offset as u32;
+        assert!(rt; at < pool.size());
+        pool.store(at, *word)?;
+    }
+    let mut fetch = Fetch::new(rt.alloc())?;
+    for (key, offset, wish, turn, record, words) in FETCHES {
+        assert!(rt; offset < 20);
+        fetch.start(key, Ref { lane: 1, offset }, wish);
+        assert_eq!(rt; finish(&rt, &pool, &mut fetch), turn, "{offset} {wish:?}");
+        assert_eq!(rt;
+            fetch.place(),
+            Ref {
+                lane: 1,
+                offset: record
+            },
+            "{offset} {wish:?}"
+        );
+        assert!(rt; record < 20 && words < 20);
+        assert!(rt; record + words <= 20);
+        let expected = &LOG[record as usize..(record + words) as usize];
+        assert_eq!(rt; fetch.words(), expected, "{offset} {wish:?}");
+    }
+    Ok(())
+}
+
+#[test]
+fn the_cached_place_goes_before_the_pending_one(rt: HostRuntime) {
+    let cached = Ref { lane: 1, offset: 3 };
+    let pending = Ref { lane: 1, offset: 9 };
+    assert_eq!(rt; first(Some(cached), Some(pending)), Start::Shortcut(cached));
+    assert_eq!(rt; first(None, Some(pending)), Start::Pending(pending));
+    assert_eq!(rt; first(None, None), Start::Index);
+}
