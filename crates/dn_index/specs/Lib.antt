@@ -1,0 +1,4 @@
+pub mod Walk
+pub mod Sequence
+pub mod Gives
+pub mod Alone
