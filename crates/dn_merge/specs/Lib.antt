@@ -1,0 +1,4 @@
+pub mod Merge
+pub mod Left
+pub mod Words
+pub mod Sequence
