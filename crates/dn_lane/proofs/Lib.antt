@@ -1,0 +1,2 @@
+pub mod SealedLemmas
+pub mod StagedLemmas

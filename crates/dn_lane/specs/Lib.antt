@@ -1,0 +1,13 @@
+pub mod Sealed
+pub mod State
+pub mod Next
+pub mod Taken
+pub mod Begun
+pub mod Left
+pub mod Stamps
+pub mod Fit
+pub mod Inside
+pub mod Spelled
+pub mod Staged
+pub mod Same
+pub mod Meaning
