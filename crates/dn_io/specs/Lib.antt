@@ -1,0 +1,4 @@
+pub mod InMemory
+pub mod Rose
+pub mod Status
+pub mod Whole
