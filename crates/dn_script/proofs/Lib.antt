@@ -1,0 +1,3 @@
+mod DecimalLemmas
+mod FieldLemmas
+mod ScriptLemmas

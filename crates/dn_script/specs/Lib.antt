@@ -1,0 +1,5 @@
+pub mod Fault
+pub mod Field
+pub mod LineFault
+pub mod Script
+pub mod Sentence
