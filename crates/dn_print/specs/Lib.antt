@@ -1,0 +1,5 @@
+pub mod CallLine
+pub mod HistoryLine
+pub mod Piece
+pub mod RefusalLine
+pub mod SummaryLine
