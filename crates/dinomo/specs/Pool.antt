@@ -1,0 +1,8 @@
+use Rattle.std.specs.Prelude.{◌≡◌, ℕ, ◌+◌, ◌*◌, ◌≤◌}
+
+-- the size of a pool of 1 to 8,192 segments
+pub record IsPoolSize (size : ℕ) : Type 0 where
+  pub segments : ℕ
+  pub least : 1 ≤ segments
+  pub most : segments ≤ 8192
+  pub whole : size ≡ 98304 + 1024 * segments

@@ -1,0 +1,90 @@
+use Rattle.std.specs.Prelude.{◌≡◌, ℕ, ◌++◌, List, Option, Some, Result, Ok, Err, length, nat_lt, if◌then◌else◌}
+use Rattle.dn_io.specs.declared.statuses.Status.{Status}
+use Rattle.dn_io.specs.declared.statuses.Status.TheVariants as status
+use Rattle.dn_script.specs.declared.scripts.Line.{Line}
+use Rattle.dn_script.specs.Script.{BadLine, script_of}
+use Rattle.dinomo.specs.declared.playing.InputFault.{InputFault}
+use Rattle.dinomo.specs.declared.playing.InputFault.TheVariants as fault
+
+-- what the bytes of a script deserve: too long, a first bad line, or to be played
+pub data Verdict : Type 0 where
+  Long : Verdict
+  Bad : BadLine → Verdict
+  Played : List Line → Verdict
+
+abbrev pub judged : Result (List Line) BadLine → Verdict
+judged (Ok lines) = Played lines
+judged (Err bad) = Bad bad
+
+-- more than 67,108,864 bytes are too long, whatever they say
+abbrev pub verdict_of : List ℕ → Verdict
+verdict_of bytes = if nat_lt 67108864 (length bytes) then Long else judged (script_of bytes)
+
+abbrev pub IsLong : Verdict → Type 0
+IsLong Long = Unit {0}
+IsLong (Bad bad) = ⊥
+IsLong (Played lines) = ⊥
+
+abbrev pub IsBad : Verdict → Type 0
+IsBad Long = ⊥
+IsBad (Bad bad) = Unit {0}
+IsBad (Played lines) = ⊥
+
+abbrev pub IsPlayed : Verdict → Type 0
+IsPlayed Long = ⊥
+IsPlayed (Bad bad) = ⊥
+IsPlayed (Played lines) = Unit {0}
+
+-- there is something to write
+abbrev pub HasOutput : Verdict → Type 0
+HasOutput Long = ⊥
+HasOutput (Bad bad) = Unit {0}
+HasOutput (Played lines) = Unit {0}
+
+-- The status that a verdict allows: the one for it; a read fault or want of memory at any time; a write fault where there is
+-- something to write; a pool fault where the script is played.
+abbrev pub Meets : Status → Verdict → Type 0
+Meets status.Ok verdict = IsPlayed verdict
+Meets status.BadScript verdict = IsBad verdict
+Meets status.TooLong verdict = IsLong verdict
+Meets status.ReadFault verdict = Unit {0}
+Meets status.OutOfMemory verdict = Unit {0}
+Meets status.WriteFault verdict = HasOutput verdict
+Meets status.PoolFault verdict = IsPlayed verdict
+Meets status.BadWords verdict = ⊥
+Meets status.IndexFull verdict = ⊥
+
+-- why there is no script
+abbrev pub IsInputFault : InputFault → Verdict → Type 0
+IsInputFault fault.Read verdict = Unit {0}
+IsInputFault fault.Long verdict = IsLong verdict
+IsInputFault (fault.Bad line cause) verdict = verdict ≡ Bad (record { line = line; cause = cause })
+IsInputFault fault.OutOfMemory verdict = Unit {0}
+
+-- bytes were written behind those before, where the sink tells them
+abbrev pub Writes : Option (List ℕ) → Option (List ℕ) → List ℕ → Type 0
+Writes old new bytes = (written : List ℕ) → old ≡ Some written → new ≡ Some (written ++ bytes)
+
+-- no script was played
+abbrev pub LeavesPool : Status → Type 0
+LeavesPool status.ReadFault = Unit {0}
+LeavesPool status.TooLong = Unit {0}
+LeavesPool status.BadScript = Unit {0}
+LeavesPool status.BadWords = Unit {0}
+LeavesPool status.Ok = ⊥
+LeavesPool status.WriteFault = ⊥
+LeavesPool status.OutOfMemory = ⊥
+LeavesPool status.PoolFault = ⊥
+LeavesPool status.IndexFull = ⊥
+
+-- there is no output
+abbrev pub LeavesSink : Status → Type 0
+LeavesSink status.ReadFault = Unit {0}
+LeavesSink status.TooLong = Unit {0}
+LeavesSink status.PoolFault = Unit {0}
+LeavesSink status.OutOfMemory = Unit {0}
+LeavesSink status.Ok = ⊥
+LeavesSink status.BadWords = ⊥
+LeavesSink status.BadScript = ⊥
+LeavesSink status.WriteFault = ⊥
+LeavesSink status.IndexFull = ⊥

@@ -1,0 +1,58 @@
+//! The words of the command line.
+
+ghost use Rattle.std.specs.Prelude.{◌≡◌, ◌≢◌, ◌↔◌, ◌<◌, ℕ, List, Some, Err, length, IsTrue};
+ghost use Rattle.dn_script.specs.Script.{script_of, name_of, BadLine};
+ghost use Rattle.dn_act.specs.Words.{IsZeros};
+ghost use Rattle.dn_io.specs.Rose.{Rose};
+ghost use Rattle.dn_print.specs.RefusalLine.{bad_words_text, bad_line_text};
+ghost use Rattle.dinomo.specs.Pool.{IsPoolSize};
+ghost use Rattle.dinomo.specs.Command.{IsPlay, RefusesWords};
+ghost use Rattle.dinomo.specs.Verdict.{Meets, verdict_of, LeavesPool, LeavesSink, Writes};
+
+use crate::playing::{play, write_out};
+use dn_act::Memory;
+use dn_io::{Sink, Source, Status};
+use dn_print::bad_words;
+use std::alloc::Global;
+
+/// Whether the words are the one word `play`.
+fn is_play(words: &[String]) -> bool
+    ensures { IsTrue result ↔ IsPlay words.now }
+{
+    words.len() == 1 && words.iter().all(|word| word.as_str() == "play")
+}
+
+/// Does what the words of the command line ask for: `play` alone plays the script of the source over the pool, as `play` says.
+/// Other words are refused, and the pool stays as it is.
+pub fn run<S: Source, K: Sink, M: Memory>(
+    alloc: Global,
+    words: &[String],
+    source: &mut S,
+    sink: &mut K,
+    pool: &mut M,
+) -> Status
+    requires size { IsPoolSize (length (M.words pool.old)) }
+    requires zeros { IsZeros (M.words pool.old) }
+    ensures words { result ≡ Status.BadWords → IsPlay words.now → ⊥ }
+    ensures other { (IsPlay words.now → ⊥) → RefusesWords result }
+    ensures script { IsPlay words.now → (left : List ℕ) → S.left source.old ≡ Some left → Meets result (verdict_of left) }
+    ensures index { result ≢ Status.IndexFull }
+    ensures read_fault { result ≡ Status.ReadFault → Rose (S.faults source.old) (S.faults source.new) }
+    ensures write_fault { result ≡ Status.WriteFault → Rose (K.faults sink.old) (K.faults sink.new) }
+    ensures size { length (M.words pool.new) ≡ length (M.words pool.old) }
+    ensures pool_fault { result ≡ Status.PoolFault → M.faults pool.old < M.faults pool.new }
+    ensures refused { result ≡ Status.BadWords → Writes (K.written sink.old) (K.written sink.new) bad_words_text }
+    ensures bad_line { result ≡ Status.BadScript → (left : List ℕ) (bad : BadLine) → S.left source.old ≡ Some left → script_of left ≡ Err bad → Writes (K.written sink.old) (K.written sink.new) (bad_line_text bad.line (name_of bad.cause)) }
+    ensures untouched { (IsPlay words.now → ⊥) → M.words pool.new ≡ M.words pool.old }
+    ensures unplayed { LeavesPool result → M.words pool.new ≡ M.words pool.old }
+    ensures unwritten { LeavesSink result → K.written sink.new ≡ K.written sink.old }
+{
+    if is_play(words) {
+        return play(alloc, source, sink, pool);
+    }
+    let mut out = Vec::new(alloc);
+    match bad_words(&mut out) {
+        Ok(()) => write_out(sink, out.as_slice(), Status::BadWords),
+        Err(_) => Status::OutOfMemory,
+    }
+}

@@ -1,0 +1,58 @@
+//! DINOMO's key-value store over one shared pool of words, played by a script.
+#![tactic(auto)]
+
+mod calls;
+mod command;
+mod opening;
+mod playing;
+mod stops;
+#[cfg(test)]
+mod tests;
+mod world;
+
+use crate::command::run;
+use dn_act::Sound;
+use dn_io::{Status, StdIn, StdOut};
+use std::env;
+use std::process::ExitCode;
+
+/// The number of segments of the pool that the program makes.
+const POOL_SEGMENTS: u32 = 8192;
+
+/// The words of the command line, without the program's name. Words that are no text are bad words.
+fn words(rt: &HostRuntime) -> Result<Vec<String>, Status> {
+    let mut words = Vec::new(rt.alloc());
+    let Ok(args) = env::args(rt) else {
+        return Err(Status::BadWords);
+    };
+    for word in args.skip(1) {
+        if words.push(word).is_err() {
+            return Err(Status::OutOfMemory);
+        }
+    }
+    Ok(words)
+}
+
+/// Runs over the standard streams and a pool of its own.
+fn run_here(rt: &HostRuntime) -> Status {
+    let words = match words(rt) {
+        Ok(words) => words,
+        Err(status) => return status,
+    };
+    let Ok(mut pool) = Sound::new(rt.alloc(), POOL_SEGMENTS) else {
+        return Status::OutOfMemory;
+    };
+    let mut source = StdIn::new(rt.stdin());
+    let mut sink = StdOut::new(rt.stdout());
+    run(
+        rt.alloc(),
+        words.as_slice(),
+        &mut source,
+        &mut sink,
+        &mut pool,
+    )
+}
+
+fn main(rt: HostRuntime) -> ExitCode {
+    ExitCode::from(run_here(&rt).code())
+}

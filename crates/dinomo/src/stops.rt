@@ -1,0 +1,7 @@
+/// Why a play ends before its script does.
+#[derive(Clone, Copy, Debug, PartialEq, Eq)]
+pub enum Stop {
+    /// An access of the pool failed.
+    Fault,
+    OutOfMemory,
+}

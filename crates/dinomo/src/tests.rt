@@ -1,0 +1,271 @@
+ghost use Rattle.std.specs.Prelude.{◌<◌, ◌≤◌};
+
+use crate::command::run;
+use dn_act::{Memory, Plain, Sound};
+use dn_hist::PlainMap;
+use dn_io::{BytesIn, BytesOut, Status};
+use dn_model::pool_map;
+use std::alloc::{AllocError, Global};
+use std::test::Fail;
+
+const EMPTY: &str = "history 0
+lane 1 live stamp 0 len 0 mark 0
+calls 0 made 0 refused 0 unanswered 0 given 0
+ways value 0 shortcut 0 pending 0 index 0 cell 0
+map 0
+";
+
+const FIRST: &str = "c1 put 5 =a
+c1 get 5
+c1 get 6
+";
+
+const FIRST_OUTPUT: &str = "c1 1 stored 1.0.1
+c1 2 =a 1.1.1
+c1 3 absent 1.2.1
+history 3
+1.0.1 1 put 5 =a stored
+1.1.1 2 get 5 =a
+1.2.1 3 get 6 absent
+lane 1 live stamp 1 len 3 mark 0
+calls 3 made 3 refused 0 unanswered 0 given 0
+ways value 0 shortcut 0 pending 1 index 1 cell 0
+map 1
+";
+
+/// What a run ends with, and what it writes.
+#[derive(Drop)]
+struct Ended {
+    status: Status,
+    sink: BytesOut,
+    pool: Sound,
+}
+
+/// Runs one word over a script, with the numbers of a read and a write that fail, 0 for none.
+fn run_word(
+    alloc: Global,
+    word: &str,
+    script: &[u8],
+    segments: u32,
+    read: u64,
+    write: u64,
+) -> Result<Ended, Fail>
+    requires least { 1 ≤ segments }
+    requires most { segments ≤ 8192 }
+{
+    let words = vec![in alloc; String::from_str(alloc, word)?]?;
+    let mut source = BytesIn::new(Vec::from_slice(alloc, script)?, vec![in alloc; read]?);
+    let mut sink = BytesOut::new(alloc, 4_194_304, vec![in alloc; write]?)?;
+    let mut pool = Sound::new(alloc, segments)?;
+    let status = run(alloc, words.as_slice(), &mut source, &mut sink, &mut pool);
+    Ok(Ended { status, sink, pool })
+}
+
+/// Appends the line of a put of so many bytes `A`.
+fn add_put(alloc: Global, script: &mut Vec<u8>, key: u32, bytes: usize) -> Result<(), AllocError> {
+    let line = format!(in alloc; "c1 put {key} =")?;
+    script.extend_from_slice(line.as_bytes())?;
+    for _ in 0..bytes {
+        script.push(b'A')?;
+    }
+    script.push(b'\n')?;
+    Ok(())
+}
+
+/// The script of puts of so many bytes on the keys from 1.
+fn puts(alloc: Global, count: u32, bytes: usize) -> Result<Vec<u8>, AllocError> {
+    let mut script = Vec::new(alloc);
+    for index in 0..count {
+        add_put(alloc, &mut script, index.saturating_add(1), bytes)?;
+    }
+    Ok(script)
+}
+
+#[test]
+fn scripts_end_by_their_status(rt: HostRuntime) -> Result<(), Fail> {
+    for (word, script, read, write, status, output) in [
+        ("play", "", 0, 0, Status::Ok, EMPTY),
+        ("play", FIRST, 0, 0, Status::Ok, FIRST_OUTPUT),
+        ("play", "fly 1\n", 0, 0, Status::BadScript, "line 1: verb\n"),
+        (
+            "play",
+            ";\n\nc1 get 05\n",
+            0,
+            0,
+            Status::BadScript,
+            "line 3: verb\n",
+        ),
+        ("play", FIRST, 1, 0, Status::ReadFault, ""),
+        ("play", FIRST, 0, 1, Status::WriteFault, ""),
+        ("fly", FIRST, 0, 0, Status::BadWords, "bad words\n"),
+    ] {
+        let ended = run_word(rt.alloc(), word, script.as_bytes(), 1024, read, write)?;
+        assert_eq!(rt; ended.status, status, "{word} {script}");
+        assert_eq!(rt; ended.sink.bytes(), output.as_bytes(), "{word} {script}");
+    }
+    Ok(())
+}
+
+#[test]
+fn an_opened_pool_has_its_format_and_its_deeds(rt: HostRuntime) -> Result<(), Fail> {
+    let ended = run_word(rt.alloc(), "play", b"", 1024, 0, 0)?;
+    for (at, word) in [
+        (0, 0x0000_0400_0000_0001u64),
+        (65, 0),
+        (191, 0),
+        (192, 0x4000_0080_8000_0000),
+        (255, 0x4000_0080_8000_0000),
+        (256, 0),
+    ] {
+        assert!(rt; has_word(&ended.pool, at, word), "at {at}");
+    }
+    Ok(())
+}
+
+#[test]
+fn a_value_has_at_most_1024_bytes(rt: HostRuntime) -> Result<(), Fail> {
+    let most = puts(rt.alloc(), 1, 1024)?;
+    let ended = run_word(rt.alloc(), "play", most.as_slice(), 1024, 0, 0)?;
+    assert_eq!(rt; ended.status, Status::Ok);
+    assert!(rt;
+        ended
+            .sink
+            .bytes()
+            .starts_with(b"c1 1 stored 1.0.1\nhistory 1\n")
+    );
+    let more = puts(rt.alloc(), 1, 1025)?;
+    let ended = run_word(rt.alloc(), "play", more.as_slice(), 1024, 0, 0)?;
+    assert_eq!(rt; ended.status, Status::BadScript);
+    assert_eq!(rt; ended.sink.bytes(), b"line 1: verb\n".as_slice());
+    assert!(rt; has_word(&ended.pool, 0, 0));
+    Ok(())
+}
+
+#[test]
+fn the_end_of_a_segment_is_padded(rt: HostRuntime) -> Result<(), Fail> {
+    let script = puts(rt.alloc(), 8, 1024)?;
+    let ended = run_word(rt.alloc(), "play", script.as_slice(), 1024, 0, 0)?;
+    assert_eq!(rt; ended.status, Status::Ok);
+    for (at, word) in [
+        (1, 2),
+        (65, 0x0000_0008_0000_0482u64),
+        (129, 0),
+        (1280, 1),
+        (1281, 2),
+        (98304, 0x0104_0000_0000_8200),
+        (99214, 0x0700_0000_0000_7200),
+        (99328, 0x0104_0000_0000_8200),
+    ] {
+        assert!(rt; has_word(&ended.pool, at, word), "at {at}");
+    }
+    Ok(())
+}
+
+#[test]
+fn a_lane_has_at_most_256_segments(rt: HostRuntime) -> Result<(), Fail> {
+    let script = puts(rt.alloc(), 1793, 1024)?;
+    let ended = run_word(rt.alloc(), "play", script.as_slice(), 1024, 0, 0)?;
+    assert_eq!(rt; ended.status, Status::Ok);
+    assert!(rt;
+        ended.sink.bytes().ends_with(
+            b"lane 1 live stamp 1792 len 262030 mark 0
+calls 1793 made 1792 refused 1 unanswered 0 given 1
+ways value 0 shortcut 0 pending 0 index 0 cell 0
+map 1792
+"
+        )
+    );
+    let text = b"c1 1793 full 0 256\nc1 1793 given\nhistory 1792\n";
+    assert!(rt;
+        ended
+            .sink
+            .bytes()
+            .windows(text.len())
+            .any(|part| part == text.as_slice())
+    );
+    Ok(())
+}
+
+/// The map that a pool holds.
+fn map_of(alloc: Global, pool: &Sound) -> Result<PlainMap, Fail> {
+    let mut words = Vec::new(alloc);
+    for at in 0..pool.size() {
+        words.push(pool.word(at))?;
+    }
+    Ok(pool_map(alloc, words.as_slice())?)
+}
+
+/// Whether a pool has this word there.
+fn has_word(pool: &Sound, at: u32, word: u64) -> bool {
+    at < pool.size() && pool.word(at) == word
+}
+
+#[test]
+fn the_words_hold_what_was_put(rt: HostRuntime) -> Result<(), Fail> {
+    let script = b"c1 put 5 =a\nc1 put 6 =b\nc1 put 5 =cc\nc1 get 7\n";
+    let ended = run_word(rt.alloc(), "play", script, 1, 0, 0)?;
+    assert!(rt; ended.sink.bytes().ends_with(b"map 2\n"));
+    let map = map_of(rt.alloc(), &ended.pool)?;
+    assert_eq!(rt; map.len(), 2);
+    for (key, value) in [(5, "cc"), (6, "b")] {
+        let found = map.get(key).ok_or("no value")?;
+        assert_eq!(rt; found.as_bytes(), value.as_bytes(), "at {key}");
+    }
+    assert!(rt; map.get(7).is_none());
+    Ok(())
+}
+
+#[test]
+fn a_full_pool_gives_calls_up(rt: HostRuntime) -> Result<(), Fail> {
+    let script = puts(rt.alloc(), 8, 1024)?;
+    let ended = run_word(rt.alloc(), "play", script.as_slice(), 1, 0, 0)?;
+    assert_eq!(rt; ended.status, Status::Ok);
+    assert!(rt;
+        ended.sink.bytes().ends_with(
+            b"lane 1 live stamp 7 len 910 mark 0
+calls 8 made 7 refused 1 unanswered 0 given 1
+ways value 0 shortcut 0 pending 0 index 0 cell 0
+map 7
+"
+        )
+    );
+    let text = b"c1 7 stored 7.0.1\nc1 8 full 1 1\nc1 8 given\nhistory 7\n";
+    assert!(rt;
+        ended
+            .sink
+            .bytes()
+            .windows(text.len())
+            .any(|part| part == text.as_slice())
+    );
+    Ok(())
+}
+
+/// Whether a play ends with a pool fault and writes nothing where this call of the pool fails.
+fn faults_at(alloc: Global, call: u64) -> Result<bool, Fail>
+    requires { 0 < call }
+{
+    let words = vec![in alloc; String::from_str(alloc, "play")?]?;
+    let mut source = BytesIn::new(Vec::from_slice(alloc, FIRST.as_bytes())?, Vec::new(alloc));
+    let mut sink = BytesOut::new(alloc, 65536, Vec::new(alloc))?;
+    let mut pool = Plain::new(alloc, 1024, vec![in alloc; (call, true)]?)?;
+    let status = run(alloc, words.as_slice(), &mut source, &mut sink, &mut pool);
+    Ok(status == Status::PoolFault && sink.bytes().is_empty())
+}
+
+#[test]
+fn a_failed_access_of_the_pool_ends_the_play(rt: HostRuntime) -> Result<(), Fail> {
+    assert!(rt; faults_at(rt.alloc(), 1)?, "the format word");
+    assert!(rt; faults_at(rt.alloc(), 129)?, "the last grant");
+    assert!(rt; faults_at(rt.alloc(), 142)?, "an action of the first get");
+    Ok(())
+}
+
+#[test]
+fn more_than_67108864_bytes_are_too_long(rt: HostRuntime) -> Result<(), Fail> {
+    let script = vec![in rt.alloc(); b'\n'; 67_108_865]?;
+    let ended = run_word(rt.alloc(), "play", script.as_slice(), 1, 0, 0)?;
+    assert_eq!(rt; ended.status, Status::TooLong);
+    assert_eq!(rt; ended.sink.bytes(), b"".as_slice());
+    assert!(rt; has_word(&ended.pool, 0, 0));
+    Ok(())
+}
