@@ -1,11 +1,12 @@
-ghost use Rattle.std.specs.Prelude.{◌≡◌, ◌<◌, ◌≤◌, List, ℕ, length, IfOk, OnErr};
+ghost use Rattle.std.specs.Prelude.{◌≡◌, ◌<◌, ◌≤◌, List, ℕ, length, IfOk, OnOk, OnErr};
 ghost use Rattle.dn_act.specs.Action.{Performs, MayPerform};
 
 use crate::actions::Action;
 use crate::faults::Failed;
 
 /// The words of a pool. Each call but `size` is one action on the word at `at`, which lies below the size. It answers the word
-/// that it found, and no other word changes. A `Failed` access raised the count of faults, and whether its action took place is not known.
+/// that it found, and no other word changes. A `Failed` access raised the count of faults, which one that answers leaves, and
+/// whether its action took place is not known.
 pub trait Memory {
     /// All words.
     ghost words: { Self → List ℕ };
@@ -22,6 +23,7 @@ pub trait Memory {
         requires { at < length (words self.old) }
         ensures ok { IfOk result (λ word. Performs (Action.Load at) word (words self.old) (words self.new)) }
         ensures failed { OnErr result (MayPerform (Action.Load at) (words self.old) (words self.new)) }
+        ensures no_fault { OnOk result (faults self.new ≡ faults self.old) }
         ensures cause { OnErr result (faults self.old < faults self.new) }
         ensures faults { faults self.old ≤ faults self.new };
 
@@ -30,6 +32,7 @@ pub trait Memory {
         requires { at < length (words self.old) }
         ensures ok { IfOk result (λ old. Performs (Action.Store at word) old (words self.old) (words self.new)) }
         ensures failed { OnErr result (MayPerform (Action.Store at word) (words self.old) (words self.new)) }
+        ensures no_fault { OnOk result (faults self.new ≡ faults self.old) }
         ensures cause { OnErr result (faults self.old < faults self.new) }
         ensures faults { faults self.old ≤ faults self.new };
 
@@ -38,6 +41,7 @@ pub trait Memory {
         requires { at < length (words self.old) }
         ensures ok { IfOk result (λ word. Performs (Action.Cas at old new) word (words self.old) (words self.new)) }
         ensures failed { OnErr result (MayPerform (Action.Cas at old new) (words self.old) (words self.new)) }
+        ensures no_fault { OnOk result (faults self.new ≡ faults self.old) }
         ensures cause { OnErr result (faults self.old < faults self.new) }
         ensures faults { faults self.old ≤ faults self.new };
 
@@ -46,6 +50,7 @@ pub trait Memory {
         requires { at < length (words self.old) }
         ensures ok { IfOk result (λ word. Performs (Action.Or at bits) word (words self.old) (words self.new)) }
         ensures failed { OnErr result (MayPerform (Action.Or at bits) (words self.old) (words self.new)) }
+        ensures no_fault { OnOk result (faults self.new ≡ faults self.old) }
         ensures cause { OnErr result (faults self.old < faults self.new) }
         ensures faults { faults self.old ≤ faults self.new };
 
@@ -54,6 +59,7 @@ pub trait Memory {
         requires { at < length (words self.old) }
         ensures ok { IfOk result (λ word. Performs (Action.Add at by) word (words self.old) (words self.new)) }
         ensures failed { OnErr result (MayPerform (Action.Add at by) (words self.old) (words self.new)) }
+        ensures no_fault { OnOk result (faults self.new ≡ faults self.old) }
         ensures cause { OnErr result (faults self.old < faults self.new) }
         ensures faults { faults self.old ≤ faults self.new };
 }

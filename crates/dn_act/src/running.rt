@@ -1,4 +1,4 @@
-ghost use Rattle.std.specs.Prelude.{◌≡◌, ◌<◌, ◌≤◌, length, IfOk, OnErr};
+ghost use Rattle.std.specs.Prelude.{◌≡◌, ◌<◌, ◌≤◌, length, IfOk, OnOk, OnErr};
 ghost use Rattle.dn_act.specs.Action.{at_of, Performs, MayPerform};
 
 use crate::actions::Action;
@@ -11,6 +11,7 @@ pub fn exec<M: Memory>(mem: &mut M, action: &Action) -> Result<u64, Failed>
     requires { at_of action.now < length (M.words mem.old) }
     ensures ok { IfOk result (λ word. Performs action.now word (M.words mem.old) (M.words mem.new)) }
     ensures failed { OnErr result (MayPerform action.now (M.words mem.old) (M.words mem.new)) }
+    ensures no_fault { OnOk result (M.faults mem.new ≡ M.faults mem.old) }
     ensures cause { OnErr result (M.faults mem.old < M.faults mem.new) }
     ensures faults { M.faults mem.old ≤ M.faults mem.new }
 {

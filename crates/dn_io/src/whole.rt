@@ -13,7 +13,7 @@ const PIECE: usize = 65_536;
 /// The bytes of the source up to its end, of which there may be `limit`.
 ///
 /// `Long` comes exactly where more than `limit` bytes come; then `limit + 1` of them were taken. `Read` comes only where
-/// the source's count of faults rose in this call. After any refusal the source has lost a front of its bytes, at most
+/// the source's count of faults rose in this call, and else no read has failed. After any refusal the source has lost a front of its bytes, at most
 /// `limit + 1` of them.
 pub fn read_all<S: Source>(
     alloc: Global,
@@ -27,6 +27,9 @@ pub fn read_all<S: Source>(
     ensures refused { IfErr result (λ fault. TookFront (S.left source.old) (S.left source.new) (EndsReading fault limit)) }
     ensures long { IsErrOf result ReadAllFault.Long → (left : List ℕ) → S.left source.old ≡ Some left → limit < length left }
     ensures cause { IsErrOf result ReadAllFault.Read → Rose (S.faults source.old) (S.faults source.new) }
+    ensures no_fault { OnOk result (S.faults source.new ≡ S.faults source.old) }
+    ensures long_no_fault { IsErrOf result ReadAllFault.Long → S.faults source.new ≡ S.faults source.old }
+    ensures want_no_fault { IsErrOf result ReadAllFault.OutOfMemory → S.faults source.new ≡ S.faults source.old }
     ensures faults { S.faults source.old ≤ S.faults source.new }
 {
     let mut bytes = Vec::new(alloc);
@@ -61,6 +64,7 @@ pub fn write_all<K: Sink>(sink: &mut K, bytes: &[u8]) -> Result<(), Failed>
     ensures ok { OnOk result (Appends (K.written sink.old) (K.written sink.new) bytes.now) }
     ensures part { OnErr result (WroteFront (K.written sink.old) (K.written sink.new) bytes.now) }
     ensures cause { OnErr result (Rose (K.faults sink.old) (K.faults sink.new)) }
+    ensures no_fault { OnOk result (K.faults sink.new ≡ K.faults sink.old) }
     ensures faults { K.faults sink.old ≤ K.faults sink.new }
 {
     let mut done = 0;
