@@ -22,10 +22,10 @@ WaitsAt staged (at.Raise located gate to) = staged ≡ []
 WaitsAt staged (at.Claim located gate to claim) = staged ≡ []
 WaitsAt staged (at.Seal located gate to) = Unit {0}
 
--- the claim is of this pool, for a log with room for a segment
+-- the claim is of this pool, for a log with so many segments and room for one
 abbrev pub ClaimsFor : Log → Claim → Type 0
-ClaimsFor log (Reading pool segments) = (pool ≡ log.pool) × (length log.segments < 256) × (log.spare ≡ None)
-ClaimsFor log (Taking pool segments) = (pool ≡ log.pool) × (length log.segments < 256) × (log.spare ≡ None)
+ClaimsFor log (Reading pool segments) = (pool ≡ log.pool) × (length log.segments < 256) × (log.spare ≡ None) × (segments ≡ length log.segments)
+ClaimsFor log (Taking pool segments) = (pool ≡ log.pool) × (length log.segments < 256) × (log.spare ≡ None) × (segments ≡ length log.segments)
 
 -- what the numbers of a place are within
 abbrev pub FitsAt : LaneState → Work → Place → Type 0
@@ -48,6 +48,7 @@ IsIdleOr l (Some k) = IsWork l k
 
 -- the numbers of a lane are within their ranges, and words wait only while a record is being sealed
 pub record IsLane (l : LaneState) : Type 0 where
+  pub number : l.log.lane < 64
   pub offsets : All (λ (s : Sealed). s.offset < 262144) l.sealed
   pub within : AreWithin l.log.pool l.staged
   pub work : IsIdleOr l l.work

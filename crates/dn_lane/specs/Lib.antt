@@ -5,9 +5,10 @@ pub mod Taken
 pub mod Begun
 pub mod Left
 pub mod Stamps
+pub mod Causes
 pub mod Fit
 pub mod Inside
 pub mod Spelled
 pub mod Staged
 pub mod Same
-pub mod Meaning
+pub mod Sequence

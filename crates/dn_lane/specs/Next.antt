@@ -8,7 +8,8 @@ use Rattle.dn_log.specs.Log.{plan_of}
 use Rattle.dn_log.specs.Claim.{next_of as claim_next}
 use Rattle.dn_locate.specs.Fetch.{fetch_next}
 use Rattle.dn_log.specs.declared.staging.Staged.{Staged}
-use Rattle.dn_lane.specs.Spelled.{key_of, record_words}
+use Rattle.dn_hist.specs.Calls.{key_of}
+use Rattle.dn_lane.specs.Spelled.{record_words}
 use Rattle.dn_lane.specs.declared.places.Place.{Place}
 use Rattle.dn_lane.specs.declared.places.Place.TheVariants as at
 use Rattle.dn_lane.specs.declared.places.Work.{Work}

@@ -2,11 +2,6 @@ use Rattle.std.specs.Prelude.{ℕ, ◌+◌, ◌/◌, length}
 use Rattle.dn_hist.specs.declared.calls.Call.{Call}
 use Rattle.dn_hist.specs.declared.calls.Call.TheVariants.{Get, Put, Delete}
 
-abbrev pub key_of : Call → ℕ
-key_of (Get key) = key
-key_of (Put key value) = key
-key_of (Delete key) = key
-
 -- the number of words of the record that a put or delete seals
 abbrev pub record_words : Call → ℕ
 record_words (Get key) = 0

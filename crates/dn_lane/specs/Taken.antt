@@ -28,7 +28,8 @@ use Rattle.dn_locate.specs.declared.fetches.Wish.{Wish}
 use Rattle.dn_locate.specs.declared.fetches.Wish.TheVariants as wish
 use Rattle.dn_log.specs.declared.staging.Staged.{Staged}
 use Rattle.dn_lane.specs.Sealed.{last_of}
-use Rattle.dn_lane.specs.Spelled.{key_of, record_words}
+use Rattle.dn_hist.specs.Calls.{key_of}
+use Rattle.dn_lane.specs.Spelled.{record_words}
 use Rattle.dn_lane.specs.Staged.{staged_of}
 use Rattle.dn_lane.specs.State.{LaneState}
 use Rattle.dn_lane.specs.declared.answers.Answer.{Answer}

@@ -1,22 +1,21 @@
-ghost use Rattle.std.specs.Prelude.{◌≡◌, ◌≢◌, ◌<◌, ◌≤◌, ◌^◌, [], None, Some, true, length, IfOk, IsTrue, IsSome, OnOk, OnErr, IfErr, is_some};
+ghost use Rattle.std.specs.Prelude.{◌≡◌, ◌<◌, ◌≤◌, ◌^◌, None, length, IfOk, OnOk, OnErr, IfErr, is_some};
 ghost use Rattle.dn_lane.specs.State.{LaneState};
-ghost use Rattle.dn_lane.specs.Next.{next_of};
-ghost use Rattle.dn_lane.specs.Taken.{taken_of};
 ghost use Rattle.dn_lane.specs.Begun.{fresh, begun, refusal_of, Refuses};
-ghost use Rattle.dn_lane.specs.Left.{actions_left};
+ghost use Rattle.dn_lane.specs.Sequence.{Calls, call_sequence};
 
-use crate::answers::{Answer, Refuse, Turn, Way};
-use crate::logged::{Sealed, last_of};
-use crate::places::{Located, Place, Work};
-use dn_act::Action;
-use dn_hist::{Call, Receipt, Reply, SessionView};
-use dn_locate::{Fetch, FetchTurn, Wish};
-use dn_log::{Claim, ClaimTurn, LogWriter, Staging};
-use dn_word::regions::{deed_at, gate_at};
-use dn_word::{Deed, DeedState, Gate, Need, OutOfMemory, Position, Ref, ValueRoom, slot_of};
+use crate::answers::Refuse;
+use crate::logged::Sealed;
+use crate::places::{Place, Work};
+use dn_hist::{Call, SessionView};
+use dn_locate::Fetch;
+use dn_log::{LogWriter, Staging};
+use dn_word::{OutOfMemory, ValueRoom};
 use std::alloc::Global;
 use std::marker::Model;
 
+mod fetching;
+mod gating;
+mod sealing;
 mod taking;
 
 /// A lane, DINOMO's KVS node: it answers one call at a time on the keys of the slots that it owns. Without an action it
@@ -100,10 +99,13 @@ impl Lane {
     ///
     /// `Busy` comes exactly where a call is under way, `Fenced` where none is and an earlier one read the bit of a fence,
     /// and `OutOfMemory` where neither is so. After each of them nothing is changed.
+    ///
+    /// After `Ok` the lane runs the program of the call to its end, whatever words its actions find.
     pub fn begin(&mut self, session: &SessionView, call: &Call) -> Result<(), Refuse>
         requires last { session.now.last.stamp < 2 ^ 31 }
         requires hint { session.now.hint ≡ None }
         ensures ok { OnOk result (self.new ≡ begun self.old session.now call.now) }
+        ensures sequence { OnOk result (Calls self.new (call_sequence self.old.log self.old.sealed session.now call.now)) }
         ensures free { OnOk result (refusal_of self.old ≡ None) }
         ensures cause { IfErr result (Refuses (refusal_of self.old)) }
         ensures same { OnErr result (self.new ≡ self.old) }

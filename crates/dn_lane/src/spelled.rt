@@ -1,7 +1,8 @@
 //! What a call's record says of the call: its key, its length, its words.
 
 ghost use Rattle.std.specs.Prelude.{◌≡◌, ◌≤◌, length, take};
-ghost use Rattle.dn_lane.specs.Spelled.{key_of, record_words, IsWrite};
+ghost use Rattle.dn_hist.specs.Calls.{key_of};
+ghost use Rattle.dn_lane.specs.Spelled.{record_words, IsWrite};
 ghost use Rattle.dn_lane.specs.Staged.{spelled};
 
 use dn_hist::Call;

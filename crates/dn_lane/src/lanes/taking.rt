@@ -1,42 +1,23 @@
-//! The next action of a lane, and what it does with the word that the action found.
+//! The next action of a lane, and how it goes on with the word that the action found.
 
-ghost use Rattle.std.specs.Prelude.{◌≡◌, ◌≢◌, ◌<◌, ◌≤◌, ◌^◌, ◌+◌, ◌*◌, [], None, true, Some, false, length, IsSome, IfSome, if◌then◌else◌};
-ghost use Rattle.dn_word.specs.Deed.{deed_of};
-ghost use Rattle.std.specs.Option.{ForSome};
-ghost use Rattle.dn_log.specs.Log.{plan_of};
-ghost use Rattle.dn_log.specs.Claim.{turn_of as claim_turn, claim_after};
-ghost use Rattle.dn_locate.specs.Fetch.{is_under_way, fetch_next, fetch_left};
+ghost use Rattle.std.specs.Prelude.{ℕ, Option, ◌≡◌, ◌<◌, ◌^◌, ◌+◌, ◌*◌, [], None, Some, IsSome, IfSome};
 ghost use Rattle.dn_act.specs.Action.{at_of};
-ghost use Rattle.dn_lane.specs.Spelled.{key_of, record_words, IsWrite};
 ghost use Rattle.dn_lane.specs.Same.{SameLane};
 ghost use Rattle.dn_lane.specs.Next.{next_of, action_of, sealing};
-ghost use Rattle.dn_lane.specs.Taken.{taken_of, goes, made, found, need_of, wish_of, locates, looked, value_in, value_by, goes_on, load_turn, load_after, fetched_by, gated, quietly, writing, rooms, stages, raised, claimed_by, seals, sealed, done_of};
-ghost use Rattle.dn_lane.specs.Fit.{FitsAt, ClaimsFor};
+ghost use Rattle.dn_lane.specs.Taken.{taken_of, goes};
+ghost use Rattle.dn_lane.specs.Fit.{FitsAt};
 ghost use Rattle.dn_lane.specs.Left.{actions_left, left_at};
-ghost use Rattle.dn_lane.specs.Stamps.{MadeFits, AnswerFits};
+ghost use Rattle.dn_lane.specs.Stamps.{MadeFits};
+ghost use Rattle.dn_lane.specs.Causes.{IsMade, IsNotOwner, IsFenced, IsFull, IsWorn};
 
 use super::Lane;
 use crate::answers::{Answer, Turn, Way};
-use crate::logged::{Sealed, last_of};
-use crate::places::{Located, Place, Work};
+use crate::places::{Place, Work};
 use crate::spelled::{key_of, record_words};
-use crate::staged::stage;
 use dn_act::Action;
-use dn_hist::{Call, Receipt, Reply};
-use dn_locate::{Fetch, FetchTurn, Wish};
-use dn_log::{Claim, ClaimTurn, LogWriter, Staging};
-use dn_word::regions::{LANE_SEGMENTS, SEGMENT_WORDS, SEGMENTS_AT, deed_at, gate_at};
-use dn_word::{Deed, DeedState, Gate, Header, MAX_STAMP, Need, Position, Ref, ValueRoom, slot_of};
-
-/// What a call's fetch is to bring: a get needs the value.
-fn wish_of(call: &Call) -> Wish
-    ensures { result ≡ wish_of call.now }
-{
-    match call {
-        Call::Get { .. } => Wish::Value,
-        Call::Put { .. } | Call::Delete { .. } => Wish::Kind,
-    }
-}
+use dn_hist::Receipt;
+use dn_word::regions::{deed_at, gate_at};
+use dn_word::{Gate, Position, slot_of};
 
 /// The gate word that seals a log of this length at this position.
 fn sealing(to: Position, len: u32) -> u64
@@ -50,132 +31,6 @@ fn sealing(to: Position, len: u32) -> u64
         len,
     }
     .word()
-}
-
-/// What the position of a call's reply has to exceed.
-fn need_of(work: &Work, floor: u32) -> Need
-    ensures { result ≡ need_of work.now floor }
-{
-    Need {
-        floor,
-        last: work.view.last,
-        session: work.view.session,
-    }
-}
-
-/// The answer of a get.
-fn found(work: Work, located: Located, to: Position) -> Answer
-    requires stamp { to.stamp < 2 ^ 31 }
-    ensures value { result ≡ made work to (found work located) None located.way }
-    ensures stamp { AnswerFits result }
-{
-    let Work {
-        call,
-        view,
-        room,
-        ..
-    } = work;
-    let reply = if located.held {
-        Reply::Value(room.into_value())
-    } else {
-        Reply::Absent
-    };
-    Answer::Made {
-        receipt: Receipt {
-            position: to,
-            number: view.number,
-            call,
-            reply,
-            at: None,
-        },
-        way: located.way,
-    }
-}
-
-/// The reply of a put or delete.
-fn done_of(call: &Call) -> Reply
-    ensures { result ≡ done_of call.now }
-{
-    match call {
-        Call::Get { .. } => Reply::Absent,
-        Call::Put { .. } => Reply::Stored,
-        Call::Delete { .. } => Reply::Deleted,
-    }
-}
-
-/// The answer of a put or delete, whose record is sealed.
-fn stored(work: Work, located: Located, to: Position, at: Ref) -> Answer
-    requires stamp { to.stamp < 2 ^ 31 }
-    ensures value { result ≡ made work to (done_of work.call) (Some at) located.way }
-    ensures stamp { AnswerFits result }
-{
-    let Work { call, view, .. } = work;
-    let reply = done_of(&call);
-    Answer::Made {
-        receipt: Receipt {
-            position: to,
-            number: view.number,
-            call,
-            reply,
-            at: Some(at),
-        },
-        way: located.way,
-    }
-}
-
-/// Whether a fetch has a next load.
-fn goes_on(turn: FetchTurn) -> bool
-    ensures { result ≡ goes_on turn }
-{
-    turn == FetchTurn::More
-}
-
-/// Puts the value that the words of a record hold into the room, where they hold one.
-fn read_value(words: &[u64], room: &mut ValueRoom) -> bool
-    ensures value { value_in words.now ≡ (if result then Some room.new else None) }
-    ensures stays { result ≡ false → room.new ≡ room.old }
-{
-    if words.is_empty() {
-        return false;
-    }
-    let header = Header::read(words[0]);
-    let content = 8 * (words.len() - 1);
-    if header.kind == 1 && header.bytes <= 1024 && header.bytes as usize + 8 <= content {
-        room.fill_words(&words[2..], header.bytes);
-        true
-    } else {
-        false
-    }
-}
-
-/// Puts the value that an ended fetch brought into the room, where it brought one.
-fn take_value(turn: FetchTurn, words: &[u64], room: &mut ValueRoom) -> bool
-    ensures value { value_by turn words.now ≡ (if result then Some room.new else None) }
-    ensures stays { result ≡ false → room.new ≡ room.old }
-{
-    match turn {
-        FetchTurn::Done => read_value(words, room),
-        FetchTurn::More | FetchTurn::Absent => false,
-    }
-}
-
-/// Takes a word of a fetch. One that names no segment, or leads past the pool, ends it: no sealed log has such words.
-fn load(log: &LogWriter, fetch: &mut Fetch, word: u64) -> FetchTurn
-    requires { is_under_way fetch.old ≡ true }
-    ensures turn { result ≡ load_turn log.now fetch.old word }
-    ensures after { fetch.new ≡ load_after log.now fetch.old word }
-    ensures falls { result ≡ FetchTurn.More → fetch_left fetch.new < fetch_left fetch.old }
-    ensures within { result ≡ FetchTurn.More → (is_under_way fetch.new ≡ true) × (at_of (fetch_next fetch.new) < 98304 + 1024 * log.now.pool) }
-{
-    if fetch.loads_directory() && (word == 0 || word > log.pool() as u64) {
-        return FetchTurn::Absent;
-    }
-    match fetch.take(word) {
-        FetchTurn::More if fetch.next().at() < SEGMENTS_AT + SEGMENT_WORDS * log.pool() =>
-            FetchTurn::More,
-        FetchTurn::Done => FetchTurn::Done,
-        FetchTurn::More | FetchTurn::Absent => FetchTurn::Absent,
-    }
 }
 
 impl Lane {
@@ -232,6 +87,8 @@ impl Lane {
 impl Lane {
     /// Takes the word that the action of `next` found, and goes on or ends the call. It takes no memory. With each `More`
     /// the bound on the actions that are left falls, so that a call ends.
+    ///
+    /// An ended call says why: each answer comes only at the places of a call, and for the words, that its clause names.
     pub fn take(&mut self, word: u64) -> Turn
         requires { IsSome self.old.work }
         ensures turn { result ≡ (taken_of self.old word).turn }
@@ -241,11 +98,31 @@ impl Lane {
         ensures ended { (answer : Answer) → result ≡ Turn.Done answer → self.new.work ≡ None }
         ensures falls { result ≡ Turn.More → actions_left self.new < actions_left self.old }
         ensures stamp { MadeFits result }
+        ensures made { (k : Work) (receipt : Receipt) (way : Way) → self.old.work ≡ Some k → result ≡ Turn.Done (Answer.Made receipt way) → IsMade self.old k word k.place receipt way }
+        ensures not_owner { (k : Work) (look : ℕ) (cell : Option ℕ) → self.old.work ≡ Some k → result ≡ Turn.Done (Answer.NotOwner look cell) → IsNotOwner self.old word k.place look cell }
+        ensures fenced { (k : Work) (gate : ℕ) → self.old.work ≡ Some k → result ≡ Turn.Done (Answer.Fenced gate) → IsFenced word k.place gate }
+        ensures full { (k : Work) (counter segments : ℕ) → self.old.work ≡ Some k → result ≡ Turn.Done (Answer.Full counter segments) → IsFull self.old k word k.place counter segments }
+        ensures worn { (k : Work) (stamp : ℕ) → self.old.work ≡ Some k → result ≡ Turn.Done (Answer.Worn stamp) → IsWorn k word k.place stamp }
     {
         if !self.staging.is_empty() {
             self.staging.flowed(0);
             return Turn::More;
         }
+        self.step(word)
+    }
+
+    /// The call goes on from its place, where no staged word is left.
+    fn step(&mut self, word: u64) -> Turn
+        requires some { IsSome self.old.work }
+        requires waits { self.old.staged ≡ [] }
+        ensures turn { result ≡ (taken_of self.old word).turn }
+        ensures lane { self.new ≡ (taken_of self.old word).lane }
+        ensures same { SameLane self.old self.new }
+        ensures works { result ≡ Turn.More → IsSome self.new.work }
+        ensures ended { (answer : Answer) → result ≡ Turn.Done answer → self.new.work ≡ None }
+        ensures falls { result ≡ Turn.More → actions_left self.new < actions_left self.old }
+        ensures stamp { MadeFits result }
+    {
         let Some(work) = &self.work else {
             unreachable!()
         };
@@ -263,9 +140,11 @@ impl Lane {
             Place::Seal { located, gate, to } => self.seal(located, gate, to, word),
         }
     }
+}
 
+impl Lane {
     /// The call goes on at this place.
-    fn go(&mut self, place: Place) -> Turn
+    pub(super) fn go(&mut self, place: Place) -> Turn
         requires some { IsSome self.old.work }
         requires waits { self.old.staged ≡ [] }
         requires fits { (k : Work) → self.old.work ≡ Some k → FitsAt self.old k place }
@@ -285,7 +164,7 @@ impl Lane {
     }
 
     /// The call ends with this answer.
-    fn end(&mut self, answer: Answer) -> Turn
+    pub(super) fn end(&mut self, answer: Answer) -> Turn
         requires { self.old.staged ≡ [] }
         ensures turn { result ≡ Turn.Done answer }
         ensures lane { self.new ≡ record self.old { work = None } }
@@ -298,7 +177,7 @@ impl Lane {
     }
 
     /// The call ends, since the gate has the bit of a fence, and so does every later one.
-    fn bar(&mut self, word: u64) -> Turn
+    pub(super) fn bar(&mut self, word: u64) -> Turn
         requires { self.old.staged ≡ [] }
         ensures turn { result ≡ Turn.Done (Answer.Fenced word) }
         ensures lane { self.new ≡ record self.old { work = None; barred = Some word } }
@@ -309,357 +188,5 @@ impl Lane {
         self.work = None;
         self.barred = Some(word);
         Turn::Done(Answer::Fenced { word })
-    }
-
-    /// The deed of the key's slot was loaded.
-    fn look(&mut self, word: u64) -> Turn
-        requires work { (k : Work) → self.old.work ≡ Some k → k.place ≡ Place.Look }
-        requires some { IsSome self.old.work }
-        requires waits { self.old.staged ≡ [] }
-        ensures turn { (k : Work) → self.old.work ≡ Some k → result ≡ (looked self.old k word (deed_of word)).turn }
-        ensures lane { (k : Work) → self.old.work ≡ Some k → self.new ≡ (looked self.old k word (deed_of word)).lane }
-        ensures same { SameLane self.old self.new }
-        ensures works { result ≡ Turn.More → IsSome self.new.work }
-        ensures ended { (answer : Answer) → result ≡ Turn.Done answer → self.new.work ≡ None }
-        ensures falls { (k : Work) → self.old.work ≡ Some k → result ≡ Turn.More → actions_left self.new < actions_left self.old }
-        ensures stamp { MadeFits result }
-    {
-        let deed = Deed::read(word);
-        if deed.state != DeedState::Owned || deed.lane != self.log.lane() {
-            return self.end(Answer::NotOwner {
-                look: word,
-                cell: None,
-            });
-        }
-        let Some(work) = &self.work else {
-            unreachable!()
-        };
-        match last_of(self.sealed.as_slice(), key_of(&work.call)) {
-            Some(offset) => self.start_fetch(deed.floor, offset),
-            None => self.go(Place::Gate {
-                floor: deed.floor,
-                located: Located {
-                    way: Way::Index,
-                    held: false,
-                },
-            }),
-        }
-    }
-
-    /// The fetch of the key's last record begins.
-    fn start_fetch(&mut self, floor: u32, offset: u32) -> Turn
-        requires some { IsSome self.old.work }
-        requires waits { self.old.staged ≡ [] }
-        requires floor { floor < 2 ^ 31 }
-        requires offset { offset < 262144 }
-        requires place { (k : Work) → self.old.work ≡ Some k → k.place ≡ Place.Look }
-        ensures turn { result ≡ Turn.More }
-        ensures lane { (k : Work) → self.old.work ≡ Some k → self.new ≡ (locates self.old k floor (Some offset)).lane }
-        ensures same { SameLane self.old self.new }
-        ensures works { result ≡ Turn.More → IsSome self.new.work }
-        ensures ended { (answer : Answer) → result ≡ Turn.Done answer → self.new.work ≡ None }
-        ensures falls { (k : Work) → self.old.work ≡ Some k → actions_left self.new < actions_left self.old }
-    {
-        let Some(work) = &self.work else {
-            unreachable!()
-        };
-        let lane = self.log.lane();
-        self.fetch.start(
-            key_of(&work.call),
-            Ref { lane, offset },
-            wish_of(&work.call),
-        );
-        self.go(Place::Fetch { floor })
-    }
-}
-
-impl Lane {
-    /// A word of the fetch was loaded.
-    fn fetched(&mut self, floor: u32, word: u64) -> Turn
-        requires work { (k : Work) → self.old.work ≡ Some k → k.place ≡ Place.Fetch floor }
-        requires some { IsSome self.old.work }
-        requires waits { self.old.staged ≡ [] }
-        ensures turn { (k : Work) → self.old.work ≡ Some k → result ≡ (fetched_by (record self.old { fetch = load_after self.old.log self.old.fetch word }) k floor (load_turn self.old.log self.old.fetch word)).turn }
-        ensures lane { (k : Work) → self.old.work ≡ Some k → self.new ≡ (fetched_by (record self.old { fetch = load_after self.old.log self.old.fetch word }) k floor (load_turn self.old.log self.old.fetch word)).lane }
-        ensures same { SameLane self.old self.new }
-        ensures works { result ≡ Turn.More → IsSome self.new.work }
-        ensures ended { (answer : Answer) → result ≡ Turn.Done answer → self.new.work ≡ None }
-        ensures falls { (k : Work) → self.old.work ≡ Some k → result ≡ Turn.More → actions_left self.new < actions_left self.old }
-        ensures stamp { MadeFits result }
-    {
-        let turn = load(&self.log, &mut self.fetch, word);
-        if goes_on(turn) {
-            return Turn::More;
-        }
-        let Some(mut work) = self.work.take() else {
-            unreachable!()
-        };
-        let held = take_value(turn, self.fetch.words(), &mut work.room);
-        work.place = Place::Gate {
-            floor,
-            located: Located {
-                way: Way::Pending,
-                held,
-            },
-        };
-        self.work = Some(work);
-        Turn::More
-    }
-
-    /// The gate was loaded.
-    fn open(&mut self, floor: u32, located: Located, word: u64) -> Turn
-        requires work { (k : Work) → self.old.work ≡ Some k → k.place ≡ Place.Gate floor located }
-        requires some { IsSome self.old.work }
-        requires waits { self.old.staged ≡ [] }
-        ensures turn { (k : Work) → self.old.work ≡ Some k → result ≡ (gated self.old k floor located word).turn }
-        ensures lane { (k : Work) → self.old.work ≡ Some k → self.new ≡ (gated self.old k floor located word).lane }
-        ensures same { SameLane self.old self.new }
-        ensures works { result ≡ Turn.More → IsSome self.new.work }
-        ensures ended { (answer : Answer) → result ≡ Turn.Done answer → self.new.work ≡ None }
-        ensures falls { (k : Work) → self.old.work ≡ Some k → result ≡ Turn.More → actions_left self.new < actions_left self.old }
-        ensures stamp { MadeFits result }
-    {
-        let gate = Gate::read(word);
-        if gate.fenced {
-            return self.bar(word);
-        }
-        let Some(work) = &self.work else {
-            unreachable!()
-        };
-        let need = need_of(work, floor);
-        match work.call {
-            Call::Get { .. } => self.answer(
-                located,
-                word,
-                need.quiet(gate.stamp),
-                need.raised(gate.stamp),
-            ),
-            Call::Put { .. } | Call::Delete { .. } => self.write(
-                located,
-                word,
-                need.raised(gate.stamp),
-            ),
-        }
-    }
-
-    /// A get is answered at the loaded gate's stamp where it may be, and else raises the stamp.
-    fn answer(
-        &mut self,
-        located: Located,
-        gate: u64,
-        quiet: Option<Position>,
-        raised: Option<Position>,
-    ) -> Turn
-        requires some { IsSome self.old.work }
-        requires waits { self.old.staged ≡ [] }
-        requires quiet { ForSome quiet (λ to. to.stamp < 2 ^ 31) }
-        requires raised { ForSome raised (λ to. to.stamp < 2 ^ 31) }
-        ensures turn { (k : Work) → self.old.work ≡ Some k → result ≡ (quietly self.old k located gate quiet raised).turn }
-        ensures lane { (k : Work) → self.old.work ≡ Some k → self.new ≡ (quietly self.old k located gate quiet raised).lane }
-        ensures same { SameLane self.old self.new }
-        ensures works { result ≡ Turn.More → IsSome self.new.work }
-        ensures ended { (answer : Answer) → result ≡ Turn.Done answer → self.new.work ≡ None }
-        ensures falls { (k : Work) → self.old.work ≡ Some k → result ≡ Turn.More → actions_left self.new < 7 + record_words k.call }
-        ensures stamp { MadeFits result }
-    {
-        if let Some(to) = quiet {
-            let Some(work) = self.work.take() else {
-                unreachable!()
-            };
-            return Turn::Done(found(work, located, to));
-        }
-        match raised {
-            Some(to) => self.go(Place::Raise { located, gate, to }),
-            None => self.end(Answer::Worn { stamp: MAX_STAMP }),
-        }
-    }
-
-    /// A put or delete goes on where its stamp may be raised.
-    fn write(&mut self, located: Located, gate: u64, raised: Option<Position>) -> Turn
-        requires work { (k : Work) → self.old.work ≡ Some k → IsWrite k.call }
-        requires some { IsSome self.old.work }
-        requires waits { self.old.staged ≡ [] }
-        requires raised { ForSome raised (λ to. to.stamp < 2 ^ 31) }
-        ensures turn { (k : Work) → self.old.work ≡ Some k → result ≡ (writing self.old k located gate raised).turn }
-        ensures lane { (k : Work) → self.old.work ≡ Some k → self.new ≡ (writing self.old k located gate raised).lane }
-        ensures same { SameLane self.old self.new }
-        ensures works { result ≡ Turn.More → IsSome self.new.work }
-        ensures ended { (answer : Answer) → result ≡ Turn.Done answer → self.new.work ≡ None }
-        ensures falls { (k : Work) → self.old.work ≡ Some k → result ≡ Turn.More → actions_left self.new < 7 + record_words k.call }
-        ensures stamp { MadeFits result }
-    {
-        match raised {
-            Some(to) => self.find_room(located, gate, to),
-            None => self.end(Answer::Worn { stamp: MAX_STAMP }),
-        }
-    }
-
-    /// Finds room for the record of a put or delete: the lane's segments reach, or it claims one.
-    fn find_room(&mut self, located: Located, gate: u64, to: Position) -> Turn
-        requires work { (k : Work) → self.old.work ≡ Some k → IsWrite k.call }
-        requires some { IsSome self.old.work }
-        requires waits { self.old.staged ≡ [] }
-        requires stamp { to.stamp < 2 ^ 31 }
-        ensures turn { (k : Work) → self.old.work ≡ Some k → result ≡ (rooms self.old k located gate to).turn }
-        ensures lane { (k : Work) → self.old.work ≡ Some k → self.new ≡ (rooms self.old k located gate to).lane }
-        ensures same { SameLane self.old self.new }
-        ensures works { result ≡ Turn.More → IsSome self.new.work }
-        ensures ended { (answer : Answer) → result ≡ Turn.Done answer → self.new.work ≡ None }
-        ensures falls { (k : Work) → self.old.work ≡ Some k → result ≡ Turn.More → actions_left self.new < 7 + record_words k.call }
-        ensures stamp { MadeFits result }
-    {
-        let Some(work) = &self.work else {
-            unreachable!()
-        };
-        if !self.log.plan(record_words(&work.call)).need_segment {
-            return self.stage(located, gate, to);
-        }
-        if self.log.segments() == LANE_SEGMENTS {
-            return self.end(Answer::Full {
-                counter: 0,
-                segments: LANE_SEGMENTS,
-            });
-        }
-        let claim = Claim::new(&self.log);
-        self.go(Place::Claim {
-            located,
-            gate,
-            to,
-            claim,
-        })
-    }
-
-    /// Stages the record of a put or delete, which goes on at its seal.
-    fn stage(&mut self, located: Located, gate: u64, to: Position) -> Turn
-        requires write { (k : Work) → self.old.work ≡ Some k → IsWrite k.call }
-        requires reach { (k : Work) → self.old.work ≡ Some k → (plan_of self.old.log (record_words k.call)).need_segment ≡ false }
-        requires some { IsSome self.old.work }
-        requires waits { self.old.staged ≡ [] }
-        requires stamp { to.stamp < 2 ^ 31 }
-        ensures turn { result ≡ Turn.More }
-        ensures lane { (k : Work) → self.old.work ≡ Some k → self.new ≡ (stages self.old k located gate to).lane }
-        ensures same { SameLane self.old self.new }
-        ensures works { result ≡ Turn.More → IsSome self.new.work }
-        ensures ended { (answer : Answer) → result ≡ Turn.Done answer → self.new.work ≡ None }
-        ensures left { (k : Work) → self.old.work ≡ Some k → actions_left self.new ≤ 3 + record_words k.call }
-    {
-        let Some(mut work) = self.work.take() else {
-            unreachable!()
-        };
-        stage(&self.log, &mut self.staging, &work.call);
-        work.place = Place::Seal { located, gate, to };
-        self.work = Some(work);
-        Turn::More
-    }
-
-    /// The claimed segment makes room for the record of a put or delete.
-    fn take_segment(&mut self, segment: u32, located: Located, gate: u64, to: Position) -> Turn
-        requires write { (k : Work) → self.old.work ≡ Some k → IsWrite k.call }
-        requires none { self.old.log.spare ≡ None }
-        requires count { length self.old.log.segments < 256 }
-        requires segment { segment < self.old.log.pool }
-        requires some { IsSome self.old.work }
-        requires waits { self.old.staged ≡ [] }
-        requires stamp { to.stamp < 2 ^ 31 }
-        ensures turn { result ≡ Turn.More }
-        ensures lane { (k : Work) → self.old.work ≡ Some k → self.new ≡ (stages (record self.old { log = record self.old.log { spare = Some segment } }) k located gate to).lane }
-        ensures same { SameLane self.old self.new }
-        ensures works { result ≡ Turn.More → IsSome self.new.work }
-        ensures ended { (answer : Answer) → result ≡ Turn.Done answer → self.new.work ≡ None }
-        ensures left { (k : Work) → self.old.work ≡ Some k → actions_left self.new ≤ 3 + record_words k.call }
-    {
-        let Some(mut work) = self.work.take() else {
-            unreachable!()
-        };
-        self.log.keep(segment);
-        stage(&self.log, &mut self.staging, &work.call);
-        work.place = Place::Seal { located, gate, to };
-        self.work = Some(work);
-        Turn::More
-    }
-
-    /// The counter of segments was loaded or added to.
-    fn claim(&mut self, located: Located, gate: u64, to: Position, claim: Claim, word: u64) -> Turn
-        requires work { (k : Work) → self.old.work ≡ Some k → k.place ≡ Place.Claim located gate to claim }
-        requires write { (k : Work) → self.old.work ≡ Some k → IsWrite k.call }
-        requires claims { ClaimsFor self.old.log claim }
-        requires some { IsSome self.old.work }
-        requires waits { self.old.staged ≡ [] }
-        requires stamp { to.stamp < 2 ^ 31 }
-        ensures turn { (k : Work) → self.old.work ≡ Some k → result ≡ (claimed_by self.old k located gate to (claim_after claim word) (claim_turn claim word)).turn }
-        ensures lane { (k : Work) → self.old.work ≡ Some k → self.new ≡ (claimed_by self.old k located gate to (claim_after claim word) (claim_turn claim word)).lane }
-        ensures same { SameLane self.old self.new }
-        ensures works { result ≡ Turn.More → IsSome self.new.work }
-        ensures ended { (answer : Answer) → result ≡ Turn.Done answer → self.new.work ≡ None }
-        ensures falls { (k : Work) → self.old.work ≡ Some k → result ≡ Turn.More → actions_left self.new < actions_left self.old }
-        ensures stamp { MadeFits result }
-    {
-        let mut claim = claim;
-        match claim.take(word) {
-            ClaimTurn::More => self.go(Place::Claim {
-                located,
-                gate,
-                to,
-                claim,
-            }),
-            ClaimTurn::Got { segment } => self.take_segment(segment, located, gate, to),
-            ClaimTurn::Full { counter, segments } => self.end(Answer::Full { counter, segments }),
-        }
-    }
-
-    /// The gate of a get was exchanged.
-    fn raise(&mut self, located: Located, gate: u64, to: Position, word: u64) -> Turn
-        requires work { (k : Work) → self.old.work ≡ Some k → k.place ≡ Place.Raise located gate to }
-        requires some { IsSome self.old.work }
-        requires stamp { to.stamp < 2 ^ 31 }
-        requires waits { self.old.staged ≡ [] }
-        ensures turn { (k : Work) → self.old.work ≡ Some k → result ≡ (raised self.old k located gate to word).turn }
-        ensures lane { (k : Work) → self.old.work ≡ Some k → self.new ≡ (raised self.old k located gate to word).lane }
-        ensures same { SameLane self.old self.new }
-        ensures works { result ≡ Turn.More → IsSome self.new.work }
-        ensures ended { (answer : Answer) → result ≡ Turn.Done answer → self.new.work ≡ None }
-        ensures falls { (k : Work) → self.old.work ≡ Some k → result ≡ Turn.More → actions_left self.new < actions_left self.old }
-        ensures stamp { MadeFits result }
-    {
-        if word != gate {
-            return self.bar(word);
-        }
-        let Some(work) = self.work.take() else {
-            unreachable!()
-        };
-        Turn::Done(found(work, located, to))
-    }
-
-    /// The gate of a put or delete was exchanged.
-    fn seal(&mut self, located: Located, gate: u64, to: Position, word: u64) -> Turn
-        requires work { (k : Work) → self.old.work ≡ Some k → k.place ≡ Place.Seal located gate to }
-        requires some { IsSome self.old.work }
-        requires stamp { to.stamp < 2 ^ 31 }
-        requires waits { self.old.staged ≡ [] }
-        ensures turn { (k : Work) → self.old.work ≡ Some k → result ≡ (sealed self.old k located gate to word).turn }
-        ensures lane { (k : Work) → self.old.work ≡ Some k → self.new ≡ (sealed self.old k located gate to word).lane }
-        ensures same { SameLane self.old self.new }
-        ensures works { result ≡ Turn.More → IsSome self.new.work }
-        ensures ended { (answer : Answer) → result ≡ Turn.Done answer → self.new.work ≡ None }
-        ensures falls { (k : Work) → self.old.work ≡ Some k → result ≡ Turn.More → actions_left self.new < actions_left self.old }
-        ensures stamp { MadeFits result }
-    {
-        if word != gate {
-            return self.bar(word);
-        }
-        let Some(work) = self.work.take() else {
-            unreachable!()
-        };
-        let plan = self.log.plan(record_words(&work.call));
-        self.log.sealed(&plan);
-        self.sealed.push_reserved(Sealed {
-            key: key_of(&work.call),
-            offset: plan.at,
-        });
-        let at = Ref {
-            lane: self.log.lane(),
-            offset: plan.at,
-        };
-        Turn::Done(stored(work, located, to, at))
     }
 }

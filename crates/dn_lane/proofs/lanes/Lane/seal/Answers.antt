@@ -7,6 +7,7 @@ use Rattle.dn_lane.proofs.lanes.Lane.seal.Goals as goal
 pub invariant_of-self : goal.invariant_of-self
 invariant_of-self c = record {
   lane = record {
+    number = search rules;
     offsets =
         let bound : c.plan-plan.result.at < 262144 = omega (arith, c.sealed.ensures.within, c.plan-plan.ensures.placed.whole, c.record_words.ensures.least) in
         subst (All (λ (s : Sealed). s.offset < 262144)) (sym c.push_reserved.ensures.items) (All-push (λ (s : Sealed). s.offset < 262144) c.self.inside.sealed.items _ c.self.invariant.lane.offsets bound);
