@@ -1,4 +1,4 @@
-use Rattle.std.proofs.Common.{◌≡◌, ◌<◌, ◌+◌, ◌-◌, ◌*◌, ◌^◌, ℕ, Bool, true, false, cond, ◌&&◌, ◌||◌, Option, Some, None, IfSome, List, length, get_or, nat_eq, nat_lt, refl, ap, sym, ◌∙◌, arith, fold, decimal}
+use Rattle.std.proofs.Common.{◌≡◌, ◌<◌, ◌+◌, ◌-◌, ◌*◌, ◌^◌, ◌≢◌, ℕ, Bool, true, false, cond, ◌&&◌, ◌||◌, Option, Some, None, IfSome, List, [], ◌∷◌, length, get_or, nat_eq, nat_lt, refl, ap, sym, ◌∙◌, arith, fold, decimal}
 use Rattle.std.proofs.lemmas.Bool.Decides.{nat_tests}
 use Rattle.std.proofs.lemmas.Str.Parse.{IsNumeralModel, IsDigitsTest, numerals_by_fold}
 use Rattle.std.proofs.lemmas.Fmt.{decimal-digits_value, digits_decimal, digits_value-decimal, first_decimal, decimal_nonempty}
@@ -35,6 +35,22 @@ led false false field n t u e =
 pub key_prints : (field : List ℕ) (key : Option ℕ) → key ≡ key_of field → IfSome key (λ n. field ≡ decimal n)
 key_prints field None e = tt
 key_prints field (Some n) e = led (nat_eq (length field) 0) (nat_eq (get_or field 0 0) 48) field n refl refl (sym e)
+
+zero_prints : decimal 0 ≡ 48 ∷ []
+zero_prints = decimal-digits_value digits (48 ∷ []) refl (omega arith) (λ _. refl) (omega arith)
+
+led_some : (b c : Bool) (field : List ℕ) (n : ℕ) → nat_eq (length field) 0 ≡ b → nat_eq (get_or field 0 0) 48 ≡ c → cond (b || c) None (fitting (list_all is_digit field) (number_of field)) ≡ Some n → field ≡ decimal n → n ≢ 0
+led_some true c field n t u e f z = absurd (cc)
+led_some false true field n t u e f z = absurd (cc)
+led_some false false field n t u e f z =
+    let lead : get_or field 0 0 ≡ 48 → ⊥ = grind (arith, nat_tests) in
+    lead (ap (λ xs. get_or xs 0 0) (f ∙ ap decimal z ∙ zero_prints))
+
+-- a key is not 0
+pub key_some : (field : List ℕ) (n : ℕ) → key_of field ≡ Some n → n ≢ 0
+key_some field n e =
+    led_some (nat_eq (length field) 0) (nat_eq (get_or field 0 0) 48) field n refl refl e
+    (led (nat_eq (length field) 0) (nat_eq (get_or field 0 0) 48) field n refl refl e)
 
 spelled : (b c : Bool) (field : List ℕ) (n : ℕ) → nat_eq (length field) 0 ≡ b → nat_eq (get_or field 0 0) 48 ≡ c → 0 < length field → 48 < get_or field 0 0
     → cond (b || c) None (fitting (list_all is_digit field) (number_of field)) ≡ fitting (list_all is_digit field) (number_of field)

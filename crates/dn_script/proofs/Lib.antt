@@ -1,3 +1,4 @@
 mod DecimalLemmas
+pub mod FitLemmas
 mod FieldLemmas
 mod ScriptLemmas

@@ -3,3 +3,4 @@ pub mod Field
 pub mod LineFault
 pub mod Script
 pub mod Sentence
+pub mod Fit

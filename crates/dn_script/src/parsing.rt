@@ -1,7 +1,8 @@
-ghost use Rattle.std.specs.Prelude.{◌≡◌, ◌<◌, ◌≤◌, ◌+◌, ◌^◌, Ok, OnOk, IfOk, IfErr, min, nat_eq, length, count_by};
+ghost use Rattle.std.specs.Prelude.{◌≡◌, ◌<◌, ◌≤◌, ◌+◌, ◌^◌, Ok, OnOk, IfOk, IfErr, All, min, nat_eq, length, count_by};
 ghost use Rattle.std.specs.List.{slice_split};
 ghost use Rattle.dn_script.specs.Sentence.{meaning_of};
 ghost use Rattle.dn_script.specs.Script.{lines_from, meanings_of, script_of};
+ghost use Rattle.dn_script.specs.Fit.{IsLine};
 ghost use Rattle.dn_script.specs.Fault.{AddsLine, IsParseFault, IsFaultOf};
 
 use crate::faults::{Cause, ParseFault};
@@ -16,10 +17,14 @@ const DEFAULT_SEGMENTS: u32 = 1024;
 
 /// The script that these bytes are, for a pool of at most so many segments: it takes the lesser of 1,024 and that.
 ///
+/// No line asks for key 0 or for a value of more than 1,024 bytes, and there are no more lines than bytes.
+///
 /// `Bad` comes exactly where a line isn't of the grammar, unless memory is wanting, and names the first such line. A last
 /// line without a newline isn't of the grammar.
 pub fn parse(alloc: Global, bytes: &[u8], segments: u32) -> Result<Script, ParseFault>
     ensures lines { IfOk result (λ script. script_of bytes.now ≡ Ok script.lines) }
+    ensures fit { IfOk result (λ script. All IsLine script.lines) }
+    ensures few { IfOk result (λ script. length script.lines ≤ length bytes.now) }
     ensures segments { IfOk result (λ script. script.segments ≡ min 1024 segments) }
     ensures bad { IfErr result (IsParseFault bytes.now) }
 {
