@@ -1,0 +1,8 @@
+use Rattle.dn_core.proofs.History.{sound_legal, sound_map}
+use Rattle.dn_core.proofs.laws.holds.Goals as goal
+
+pub returns-clause-legal : goal.returns-clause-legal
+returns-clause-legal c = sound_legal
+
+pub returns-clause-map : goal.returns-clause-map
+returns-clause-map c = sound_map

@@ -1,0 +1,20 @@
+use Rattle.std.proofs.Common.{rules, sym, ◌∙◌}
+use Rattle.dn_core.proofs.Driven.{driven_done, driven_on}
+use Rattle.dn_core.proofs.running.drive.Goals as goal
+
+pub returns-in-Done-clause-answer : goal.returns-in-Done-clause-answer
+returns-in-Done-clause-answer g c = λ receipts k s w.
+    driven_done _ _ c.loop-action.lane c.take.new.self k _ receipts c.in-Some.action c.in_ok-word.word c.take.result c.in-Done.answer
+    (c.loop-action.invariant.goes_on receipts k s w) (sym c.next.ensures.value ∙ c.in-Some.is) c.in_ok-word.ensures.ok c.take.ensures.lane c.take.ensures.turn c.in-Done.is
+
+pub loop-action-preserved : goal.loop-action-preserved
+loop-action-preserved g c = record {
+  works = c.take.ensures.works c.in_default-take.is;
+  goes_on = λ receipts k s w.
+      driven_on _ _ c.loop-action.lane c.take.new.self k _ receipts c.in-Some.action c.in_ok-word.word c.take.result
+      (c.loop-action.invariant.goes_on receipts k s w) (sym c.next.ensures.value ∙ c.in-Some.is) c.in_ok-word.ensures.ok c.take.ensures.lane c.take.ensures.turn c.in_default-take.is;
+  number = search rules;
+  pool = search rules;
+  size = search rules;
+  faults = search rules;
+}

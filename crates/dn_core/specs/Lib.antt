@@ -1,0 +1,9 @@
+pub mod Space
+pub mod Directory
+pub mod Standing
+pub mod Written
+pub mod Placing
+pub mod Found
+pub mod Calling
+pub mod Sound
+pub mod Opened

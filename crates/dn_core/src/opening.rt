@@ -1,0 +1,71 @@
+//! The opening of a pool.
+
+ghost use Rattle.std.specs.Prelude.{◌≡◌, ◌<◌, ◌≤◌, ◌*◌, ◌+◌, length, OnOk, OnErr};
+ghost use Rattle.dn_core.specs.Opened.{IsOpened, IsGranted};
+
+use dn_act::{Action, Failed, Memory, exec};
+use dn_word::regions::{FORMAT_AT, SLOTS, deed_at};
+use dn_word::{Deed, DeedState, Format};
+
+/// The number of the layout of words that this store writes.
+const LAYOUT: u32 = 1;
+
+/// Grants a slot to its first owner: its deed is loaded and exchanged.
+fn grant<M: Memory>(mem: &mut M, slot: u8, lane: u8) -> Result<(), Failed>
+    requires slot { slot < 64 }
+    requires lane { lane < 64 }
+    requires size { 98304 ≤ length (M.words mem.old) }
+    ensures granted { OnOk result (IsGranted (M.words mem.old) (M.words mem.new) slot lane) }
+    ensures size { length (M.words mem.new) ≡ length (M.words mem.old) }
+    ensures no_fault { OnOk result (M.faults mem.new ≡ M.faults mem.old) }
+    ensures cause { OnErr result (M.faults mem.old < M.faults mem.new) }
+    ensures faults { M.faults mem.old ≤ M.faults mem.new }
+{
+    let at = deed_at(slot);
+    let old = exec(mem, &Action::Load { at })?;
+    let owned = Deed {
+        state: DeedState::Owned,
+        epoch: 1,
+        lane,
+        floor: 0,
+    };
+    exec(
+        mem,
+        &Action::Cas {
+            at,
+            old,
+            new: owned.word(),
+        },
+    )?;
+    Ok(())
+}
+
+/// Stores the format word of a pool of so many segments, and grants all slots to the lane: each deed is the lane's in epoch 1,
+/// with a floor of 0. All other words stay. A `Failed` access raised the memory's count of faults.
+pub fn open<M: Memory>(mem: &mut M, segments: u32, lane: u8) -> Result<(), Failed>
+    requires size { 98304 ≤ length (M.words mem.old) }
+    requires segments { segments ≤ 8192 }
+    requires lane { lane < 64 }
+    ensures opened { OnOk result (IsOpened (M.words mem.old) (M.words mem.new) segments lane) }
+    ensures size { length (M.words mem.new) ≡ length (M.words mem.old) }
+    ensures no_fault { OnOk result (M.faults mem.new ≡ M.faults mem.old) }
+    ensures cause { OnErr result (M.faults mem.old < M.faults mem.new) }
+    ensures faults { M.faults mem.old ≤ M.faults mem.new }
+{
+    let word = Format {
+        segments,
+        number: LAYOUT,
+    }
+    .word();
+    exec(
+        mem,
+        &Action::Store {
+            at: FORMAT_AT,
+            word,
+        },
+    )?;
+    for slot in 0..SLOTS {
+        grant(mem, slot, lane)?;
+    }
+    Ok(())
+}

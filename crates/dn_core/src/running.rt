@@ -1,0 +1,37 @@
+//! One call of a lane, run action by action.
+
+ghost use Rattle.std.specs.Prelude.{◌≡◌, ◌<◌, ◌≤◌, ◌*◌, ◌+◌, List, length, IsSome, Some, None, IfOk, OnOk, OnErr};
+ghost use Rattle.dn_hist.specs.declared.receipts.Receipt.{Receipt};
+ghost use Rattle.dn_lane.specs.Stamps.{AnswerFits};
+ghost use Rattle.dn_model.specs.Regions.{gate};
+ghost use Rattle.dn_lane.specs.declared.places.Work.{Work};
+ghost use Rattle.dn_core.specs.Sound.{IsSound, Answers};
+
+use dn_act::{Failed, Memory, exec};
+use dn_lane::{Answer, Lane, Turn};
+
+/// Runs the call under way to its answer: each action of the lane, and then its turn with the word that was found.
+///
+/// The answer is what a sound state promises of a call: it is made, and its receipt joins those before it, or the pool has no
+/// room for its record, and receipts and map stay. A `Failed` access raised the memory's count of faults.
+pub fn drive<M: Memory>(lane: &mut Lane, mem: &mut M) -> Result<Answer, Failed>
+    requires works { IsSome lane.old.work }
+    requires size { 98304 + 1024 * lane.old.log.pool ≤ length (M.words mem.old) }
+    ensures answer { IfOk result (λ answer. (receipts : List Receipt) (k : Work) → IsSound (M.words mem.old) lane.old receipts → lane.old.work ≡ Some k → Answers k (gate (M.words mem.old) lane.old.log.lane).stamp (M.words mem.new) lane.new receipts answer) }
+    ensures stamp { IfOk result AnswerFits }
+    ensures idle { OnOk result (lane.new.work ≡ None) }
+    ensures number { lane.new.log.lane ≡ lane.old.log.lane }
+    ensures pool { lane.new.log.pool ≡ lane.old.log.pool }
+    ensures size { length (M.words mem.new) ≡ length (M.words mem.old) }
+    ensures no_fault { OnOk result (M.faults mem.new ≡ M.faults mem.old) }
+    ensures cause { OnErr result (M.faults mem.old < M.faults mem.new) }
+    ensures faults { M.faults mem.old ≤ M.faults mem.new }
+{
+    while let Some(action) = lane.next() {
+        let word = exec(mem, &action)?;
+        if let Turn::Done(answer) = lane.take(word) {
+            return Ok(answer);
+        }
+    }
+    unreachable!()
+}
