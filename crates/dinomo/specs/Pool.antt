@@ -1,4 +1,4 @@
-use Rattle.std.specs.Prelude.{◌≡◌, ℕ, ◌+◌, ◌*◌, ◌≤◌}
+use Rattle.std.specs.Prelude.{◌≡◌, ℕ, ◌+◌, ◌-◌, ◌*◌, ◌/◌, ◌≤◌, min}
 
 -- the size of a pool of 1 to 8,192 segments
 pub record IsPoolSize (size : ℕ) : Type 0 where
@@ -6,3 +6,7 @@ pub record IsPoolSize (size : ℕ) : Type 0 where
   pub least : 1 ≤ segments
   pub most : segments ≤ 8192
   pub whole : size ≡ 98304 + 1024 * segments
+
+-- the segments in which a script plays, in a pool of this size: the pool's, up to 1,024
+abbrev pub segments_of : ℕ → ℕ
+segments_of size = min 1024 ((size - 98304) / 1024)

@@ -1,14 +1,10 @@
 //! DINOMO's key-value store over one shared pool of words, played by a script.
 #![tactic(auto)]
 
-mod calls;
 mod command;
-mod opening;
 mod playing;
-mod stops;
 #[cfg(test)]
 mod tests;
-mod world;
 
 use crate::command::run;
 use dn_act::Sound;
@@ -19,11 +15,11 @@ use std::process::ExitCode;
 /// The number of segments of the pool that the program makes.
 const POOL_SEGMENTS: u32 = 8192;
 
-/// The words of the command line, without the program's name. Words that are no text are bad words.
+/// The words of the command line, without the program's name. Where one is no text there are none, which is no command.
 fn words(rt: &HostRuntime) -> Result<Vec<String>, Status> {
     let mut words = Vec::new(rt.alloc());
     let Ok(args) = env::args(rt) else {
-        return Err(Status::BadWords);
+        return Ok(words);
     };
     for word in args.skip(1) {
         if words.push(word).is_err() {

@@ -1,20 +1,26 @@
 //! A play: a script is read, played over a pool, and its output written.
 
-ghost use Rattle.std.specs.Prelude.{◌≡◌, ◌≢◌, ◌⊎◌, ◌<◌, ◌≤◌, ◌+◌, ◌*◌, ◌++◌, ℕ, List, Some, Ok, Err, length, IfOk, IfErr, OnOk, IsErrOf};
+ghost use Rattle.std.specs.Prelude.{◌≡◌, ◌≢◌, ◌⊎◌, ◌<◌, ◌≤◌, ◌+◌, ◌*◌, ◌^◌, ◌++◌, ℕ, List, [], Some, None, Ok, Err, All, length, min, IfOk, IfErr, OnOk, IsErrOf};
 ghost use Rattle.dn_act.specs.Words.{IsZeros};
+ghost use Rattle.std.specs.Io.KnownBytes.{IsAtEnd};
 ghost use Rattle.dn_io.specs.Rose.{Rose};
+ghost use Rattle.dn_io.specs.Whole.{WroteFront};
+ghost use Rattle.dn_script.specs.Fit.{IsLine};
 ghost use Rattle.dn_script.specs.Script.{script_of, name_of, BadLine};
+ghost use Rattle.dn_script.specs.declared.scripts.Line.{Line as LineOf};
 ghost use Rattle.dn_print.specs.RefusalLine.{bad_line_text};
-ghost use Rattle.dinomo.specs.Pool.{IsPoolSize};
+ghost use Rattle.dinomo.specs.Pool.{IsPoolSize, segments_of};
+ghost use Rattle.dn_world.specs.Playing.{CallsLine};
+ghost use Rattle.dn_world.specs.Run.{IsRun};
 ghost use Rattle.dinomo.specs.Verdict.{verdict_of, Meets, IsInputFault, IsPlayed, Writes, LeavesPool, LeavesSink};
+ghost use Rattle.dinomo.specs.Headline.{WritesRun, WritesPart, EndsPlay};
 
-use crate::stops::Stop;
-use crate::world::World;
 use dn_act::Memory;
 use dn_io::{ReadAllFault, Sink, Source, Status, read_all, write_all};
 use dn_print::bad_line;
 use dn_script::{Cause, Line, ParseFault, Script, parse};
 use dn_word::regions::{SEGMENT_WORDS, SEGMENTS_AT};
+use dn_world::{Stop, World};
 use std::alloc::Global;
 
 /// The most bytes of a script.
@@ -35,10 +41,16 @@ fn read_script<S: Source>(
     source: &mut S,
     segments: u32,
 ) -> Result<Script, InputFault>
-    ensures segments { IfOk result (λ script. script.segments ≤ segments) }
+    ensures segments { IfOk result (λ script. script.segments ≡ min 1024 segments) }
     ensures ok { IfOk result (λ script. (left : List ℕ) → S.left source.old ≡ Some left → IsPlayed (verdict_of left)) }
+    ensures lines { IfOk result (λ script. (left : List ℕ) → S.left source.old ≡ Some left → script_of left ≡ Ok script.lines) }
+    ensures fit { IfOk result (λ script. All IsLine script.lines) }
+    ensures few { IfOk result (λ script. length script.lines ≤ 67108864) }
     ensures fault { IfErr result (λ fault. (left : List ℕ) → S.left source.old ≡ Some left → IsInputFault fault (verdict_of left)) }
+    ensures end { OnOk result (IsAtEnd (S.left source.new)) }
     ensures cause { IsErrOf result InputFault.Read → Rose (S.faults source.old) (S.faults source.new) }
+    ensures no_fault { OnOk result (S.faults source.new ≡ S.faults source.old) }
+    ensures else_no_fault { IfErr result (λ fault. fault ≢ InputFault.Read → S.faults source.new ≡ S.faults source.old) }
 {
     let bytes = match read_all(alloc, source, MAX_BYTES) {
         Ok(bytes) => bytes,
@@ -53,26 +65,54 @@ fn read_script<S: Source>(
     }
 }
 
-/// Plays the lines of a script over the pool, and appends the output.
-fn perform<M: Memory>(
-    alloc: Global,
+/// Runs the call that a line asks for.
+fn call_line<M: Memory>(
+    world: &mut World,
     pool: &mut M,
-    script: Script,
     out: &mut Vec<u8>,
+    line: &Line,
 ) -> Result<(), Stop>
-    requires segments { script.segments ≤ 8192 }
-    requires size { 98304 + 1024 * script.segments ≤ length (M.words pool.old) }
+    requires size { 98304 + 1024 * world.old.lane.log.pool ≤ length (M.words pool.old) }
+    requires idle { world.old.lane.work ≡ None }
+    ensures calls { OnOk result (CallsLine (M.words pool.old) world.old line.now out.old.items (M.words pool.new) world.new out.new.items) }
+    ensures idle { OnOk result (world.new.lane.work ≡ None) }
+    ensures pool { world.new.lane.log.pool ≡ world.old.lane.log.pool }
     ensures size { length (M.words pool.new) ≡ length (M.words pool.old) }
+    ensures no_fault { OnOk result (M.faults pool.new ≡ M.faults pool.old) }
+    ensures want { IsErrOf result Stop.OutOfMemory → M.faults pool.new ≡ M.faults pool.old }
     ensures cause { IsErrOf result Stop.Fault → M.faults pool.old < M.faults pool.new }
     ensures faults { M.faults pool.old ≤ M.faults pool.new }
 {
-    let segments = script.segments;
-    let lines = script.lines.into_vec();
-    let mut world = World::open(alloc, pool, segments, lines.len())?;
+    match line {
+        Line::Call { session, call } => world.call(pool, out, *session, call),
+    }
+}
+
+/// Plays the lines of a script over a pool whose words are all 0, and makes the output: what it is, and what the words are
+/// then, is that of a run of the lines.
+fn perform<M: Memory>(
+    alloc: Global,
+    pool: &mut M,
+    script: &Script,
+    out: &mut Vec<u8>,
+) -> Result<(), Stop>
+    requires segments { script.now.segments ≤ 8192 }
+    requires size { 98304 + 1024 * script.now.segments ≤ length (M.words pool.old) }
+    requires zeros { IsZeros (M.words pool.old) }
+    requires fit { All IsLine script.now.lines }
+    requires few { length script.now.lines ≤ 67108864 }
+    requires empty { out.old.items ≡ [] }
+    ensures run { OnOk result (IsRun script.now.segments script.now.lines (M.words pool.new) out.new.items) }
+    ensures size { length (M.words pool.new) ≡ length (M.words pool.old) }
+    ensures no_fault { OnOk result (M.faults pool.new ≡ M.faults pool.old) }
+    ensures want { IsErrOf result Stop.OutOfMemory → M.faults pool.new ≡ M.faults pool.old }
+    ensures cause { IsErrOf result Stop.Fault → M.faults pool.old < M.faults pool.new }
+    ensures faults { M.faults pool.old ≤ M.faults pool.new }
+{
+    let lines = script.lines.as_slice();
+    let mut world = World::open(alloc, pool, script.segments, lines.len())?;
     for line in lines {
-        match line {
-            Line::Call { session, call } => world.call(pool, out, session, &call)?,
-        }
+        call_line(&mut world, pool, out, line)?;
     }
     world.finish(pool, out)
 }
@@ -82,6 +122,8 @@ pub fn write_out<K: Sink>(sink: &mut K, out: &[u8], status: Status) -> Status
     ensures ends { (result ≡ status) ⊎ (result ≡ Status.WriteFault) }
     ensures cause { result ≡ Status.WriteFault → status ≢ Status.WriteFault → Rose (K.faults sink.old) (K.faults sink.new) }
     ensures whole { result ≢ Status.WriteFault → Writes (K.written sink.old) (K.written sink.new) out.now }
+    ensures part { result ≡ Status.WriteFault → status ≢ Status.WriteFault → WroteFront (K.written sink.old) (K.written sink.new) out.now }
+    ensures no_write_fault { result ≢ Status.WriteFault → K.faults sink.new ≡ K.faults sink.old }
 {
     match write_all(sink, out) {
         Ok(()) => status,
@@ -89,10 +131,40 @@ pub fn write_out<K: Sink>(sink: &mut K, out: &[u8], status: Status) -> Status
     }
 }
 
+/// Plays a script over a pool whose words are all 0, and writes the output after all of it was made.
+fn play_script<K: Sink, M: Memory>(
+    alloc: Global,
+    sink: &mut K,
+    pool: &mut M,
+    script: &Script,
+) -> Status
+    requires segments { script.now.segments ≤ 8192 }
+    requires size { 98304 + 1024 * script.now.segments ≤ length (M.words pool.old) }
+    requires zeros { IsZeros (M.words pool.old) }
+    requires fit { All IsLine script.now.lines }
+    requires few { length script.now.lines ≤ 67108864 }
+    ensures ends { EndsPlay result }
+    ensures ok { result ≡ Status.Ok → WritesRun script.now.segments script.now.lines (M.words pool.new) (K.written sink.old) (K.written sink.new) }
+    ensures part { result ≡ Status.WriteFault → WritesPart script.now.segments script.now.lines (M.words pool.new) (K.written sink.old) (K.written sink.new) }
+    ensures write_fault { result ≡ Status.WriteFault → Rose (K.faults sink.old) (K.faults sink.new) }
+    ensures no_write_fault { result ≢ Status.WriteFault → K.faults sink.new ≡ K.faults sink.old }
+    ensures size { length (M.words pool.new) ≡ length (M.words pool.old) }
+    ensures pool_fault { result ≡ Status.PoolFault → M.faults pool.old < M.faults pool.new }
+    ensures no_fault { result ≢ Status.PoolFault → M.faults pool.new ≡ M.faults pool.old }
+    ensures unwritten { LeavesSink result → K.written sink.new ≡ K.written sink.old }
+{
+    let mut out = Vec::new(alloc);
+    match perform(alloc, pool, script, &mut out) {
+        Ok(()) => write_out(sink, out.as_slice(), Status::Ok),
+        Err(Stop::Fault) => Status::PoolFault,
+        Err(Stop::OutOfMemory) => Status::OutOfMemory,
+    }
+}
+
 /// Plays the script of the source over the pool, and writes the output to the sink after all of it was made.
 ///
 /// A source, sink or access of the pool that fails ends the play with its status. What the output is where the status is
-/// Ok is written in docs/SCRIPT.md.
+/// Ok is the definition `IsRun`, and in words docs/SCRIPT.md.
 pub fn play<S: Source, K: Sink, M: Memory>(
     alloc: Global,
     source: &mut S,
@@ -101,14 +173,25 @@ pub fn play<S: Source, K: Sink, M: Memory>(
 ) -> Status
     requires size { IsPoolSize (length (M.words pool.old)) }
     requires zeros { IsZeros (M.words pool.old) }
+    // Whole: the output of a run of the script's lines was written, and the pool is what the run left. With a write fault a
+    // front of that output was written. Where nothing fails, the script is played, or memory was wanting.
+    ensures headline { result ≡ Status.Ok → (left : List ℕ) (lines : List LineOf) → S.left source.old ≡ Some left → script_of left ≡ Ok lines → WritesRun (segments_of (length (M.words pool.old))) lines (M.words pool.new) (K.written sink.old) (K.written sink.new) }
+    ensures headline_part { result ≡ Status.WriteFault → (left : List ℕ) (lines : List LineOf) → S.left source.old ≡ Some left → script_of left ≡ Ok lines → WritesPart (segments_of (length (M.words pool.old))) lines (M.words pool.new) (K.written sink.old) (K.written sink.new) }
+    ensures complete { (left : List ℕ) (lines : List LineOf) → S.left source.old ≡ Some left → length left ≤ 67108864 → script_of left ≡ Ok lines → (Rose (S.faults source.old) (S.faults source.new) → ⊥) → (Rose (K.faults sink.old) (K.faults sink.new) → ⊥) → M.faults pool.new ≡ M.faults pool.old → (result ≡ Status.Ok) ⊎ (result ≡ Status.OutOfMemory) }
+    ensures end { result ≡ Status.Ok → IsAtEnd (S.left source.new) }
+    ensures unplayed_fault { result ≡ Status.WriteFault → (left : List ℕ) (bad : BadLine) → S.left source.old ≡ Some left → script_of left ≡ Err bad → M.words pool.new ≡ M.words pool.old }
+    ensures bad_part { result ≡ Status.WriteFault → (left : List ℕ) (bad : BadLine) → S.left source.old ≡ Some left → script_of left ≡ Err bad → WroteFront (K.written sink.old) (K.written sink.new) (bad_line_text bad.line (name_of bad.cause)) }
     // For a source that tells its bytes, the status is the one that they deserve, or one with a cause of its own.
     ensures script { (left : List ℕ) → S.left source.old ≡ Some left → Meets result (verdict_of left) }
     ensures words { result ≢ Status.BadWords }
     ensures index { result ≢ Status.IndexFull }
     ensures read_fault { result ≡ Status.ReadFault → Rose (S.faults source.old) (S.faults source.new) }
+    ensures no_read_fault { result ≢ Status.ReadFault → S.faults source.new ≡ S.faults source.old }
     ensures write_fault { result ≡ Status.WriteFault → Rose (K.faults sink.old) (K.faults sink.new) }
+    ensures no_write_fault { result ≢ Status.WriteFault → K.faults sink.new ≡ K.faults sink.old }
     ensures size { length (M.words pool.new) ≡ length (M.words pool.old) }
     ensures pool_fault { result ≡ Status.PoolFault → M.faults pool.old < M.faults pool.new }
+    ensures no_fault { result ≢ Status.PoolFault → M.faults pool.new ≡ M.faults pool.old }
     // Where no script was played, the pool stays; where there is no output, nothing is written.
     ensures untouched { LeavesPool result → M.words pool.new ≡ M.words pool.old }
     ensures unwritten { LeavesSink result → K.written sink.new ≡ K.written sink.old }
@@ -122,19 +205,16 @@ pub fn play<S: Source, K: Sink, M: Memory>(
         Err(InputFault::OutOfMemory) => return Status::OutOfMemory,
         Err(InputFault::Bad { line, cause }) => return refuse(alloc, sink, line, cause),
     };
-    let mut out = Vec::new(alloc);
-    match perform(alloc, pool, script, &mut out) {
-        Ok(()) => write_out(sink, out.as_slice(), Status::Ok),
-        Err(Stop::Fault) => Status::PoolFault,
-        Err(Stop::OutOfMemory) => Status::OutOfMemory,
-    }
+    play_script(alloc, sink, pool, &script)
 }
 
 /// Writes the line that names the first bad line of a script.
 fn refuse<K: Sink>(alloc: Global, sink: &mut K, line: u64, cause: Cause) -> Status
     ensures ends { (result ≡ Status.BadScript) ⊎ (result ≡ Status.WriteFault) ⊎ (result ≡ Status.OutOfMemory) }
     ensures cause { result ≡ Status.WriteFault → Rose (K.faults sink.old) (K.faults sink.new) }
+    ensures no_write_fault { result ≢ Status.WriteFault → K.faults sink.new ≡ K.faults sink.old }
     ensures want { result ≡ Status.OutOfMemory → K.written sink.new ≡ K.written sink.old }
+    ensures part { result ≡ Status.WriteFault → WroteFront (K.written sink.old) (K.written sink.new) (bad_line_text line (name_of cause)) }
     ensures line { result ≡ Status.BadScript → Writes (K.written sink.old) (K.written sink.new) (bad_line_text line (name_of cause)) }
 {
     let mut out = Vec::new(alloc);

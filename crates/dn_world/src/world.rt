@@ -1,39 +1,28 @@
-//! What a play keeps: its lane, its session, its history and its counts.
+//! A play's world.
 
-ghost use Rattle.std.specs.Prelude.{◌≡◌, ◌<◌, ◌≤◌, ◌+◌, ◌*◌, ◌^◌, length, None, IfOk, IfErr, OnOk, IsErrOf};
+ghost use Rattle.std.specs.Prelude.{◌≡◌, ◌<◌, ◌≤◌, ◌+◌, ◌*◌, ◌^◌, ◌++◌, [], length, None, IfOk, IfErr, OnOk, IsErrOf};
+ghost use Rattle.dn_act.specs.Words.{IsZeros};
 ghost use Rattle.dn_lane.specs.Stamps.{AnswerFits};
+ghost use Rattle.dn_print.specs.CallLine.{made_text, event_text};
+ghost use Rattle.dn_world.specs.Rest.{PrintsRest};
+ghost use Rattle.dn_world.specs.State.{keeping, giving_up};
+ghost use Rattle.dn_world.specs.World.{IsWorld, Calls, Answered};
 
-use crate::calls::drive;
-use crate::opening::open;
+use crate::counts::Counts;
+use crate::histories::print_rest;
 use crate::stops::Stop;
 use dn_act::{Action, Memory, exec};
-use dn_hist::{Call, PlainMap, Receipt, Reply, SessionView, order};
+use dn_core::{drive, open};
+use dn_hist::{Call, Receipt, Reply, SessionView, order};
 use dn_lane::{Answer, Lane, Refuse, Way};
-use dn_print::{
-    EventLine, LaneState, calls_line, event, history_head, history_line, lane_line, made, map_line,
-    ways_line,
-};
+use dn_print::{EventLine, event, made};
 use dn_word::regions::{gate_at, mark_at};
 use dn_word::{Gate, OutOfMemory, Position};
 use std::alloc::Global;
+use std::marker::Model;
 
 /// The number of the one lane.
 const LANE: u8 = 1;
-
-/// What is counted over a play. Counts stand still at their last value.
-#[derive(Clone, Copy, Debug, PartialEq, Eq)]
-pub struct Counts {
-    /// Calls that took a number.
-    pub calls: u32,
-    /// Calls that were answered Made.
-    pub made: u64,
-    /// Calls that were given up after a refused attempt.
-    pub given: u64,
-    /// Answered gets that were located by a pending record.
-    pub pending: u64,
-    /// Answered gets that were located by the index.
-    pub index: u64,
-}
 
 /// The receipt, with a value of a reply in no more memory than it needs: a get's value comes in room for 1,024 bytes.
 fn compact(alloc: Global, receipt: Receipt) -> Result<Receipt, OutOfMemory>
@@ -67,7 +56,19 @@ pub struct World {
     last: Position,
     counts: Counts,
     history: Vec<Receipt>,
-    ghost stamp: { last.stamp < 2 ^ 31 },
+}
+
+impl Model for World {
+    ghost use Rattle.std.specs.Prelude.{◌<◌, ◌^◌};
+    ghost use Rattle.dn_world.specs.State.{WorldState};
+
+    ghost Value = { WorldState };
+
+    ghost use Rattle.dn_world.specs.Inside.{state_of};
+
+    ghost view = { state_of };
+
+    ghost invariant = { λ a. a.last.stamp < 2 ^ 31 };
 }
 
 impl World {
@@ -81,9 +82,12 @@ impl World {
     ) -> Result<World, Stop>
         requires segments { segments ≤ 8192 }
         requires size { 98304 + 1024 * segments ≤ length (M.words mem.old) }
+        ensures world { IfOk result (λ world. IsZeros (M.words mem.old) → IsWorld (M.words mem.new) world []) }
         ensures pool { IfOk result (λ world. world.lane.log.pool ≡ segments) }
         ensures idle { IfOk result (λ world. world.lane.work ≡ None) }
         ensures size { length (M.words mem.new) ≡ length (M.words mem.old) }
+        ensures no_fault { OnOk result (M.faults mem.new ≡ M.faults mem.old) }
+        ensures want { IsErrOf result Stop.OutOfMemory → M.faults mem.new ≡ M.faults mem.old }
         ensures cause { IsErrOf result Stop.Fault → M.faults mem.old < M.faults mem.new }
         ensures faults { M.faults mem.old ≤ M.faults mem.new }
     {
@@ -115,7 +119,8 @@ impl World {
         })
     }
 
-    /// Runs a call of the session to its answer, and appends its event lines.
+    /// Runs a call of the session to its answer, and appends its event lines. From a sound world the call is made or given up,
+    /// and it is the world with one more call that has ended.
     pub fn call<M: Memory>(
         &mut self,
         mem: &mut M,
@@ -125,13 +130,16 @@ impl World {
     ) -> Result<(), Stop>
         requires size { 98304 + 1024 * self.old.lane.log.pool ≤ length (M.words mem.old) }
         requires idle { self.old.lane.work ≡ None }
+        ensures calls { OnOk result (Calls (M.words mem.old) self.old session call.now out.old.items (M.words mem.new) self.new out.new.items) }
         ensures idle { OnOk result (self.new.lane.work ≡ None) }
         ensures pool { self.new.lane.log.pool ≡ self.old.lane.log.pool }
         ensures size { length (M.words mem.new) ≡ length (M.words mem.old) }
+        ensures no_fault { OnOk result (M.faults mem.new ≡ M.faults mem.old) }
+        ensures want { IsErrOf result Stop.OutOfMemory → M.faults mem.new ≡ M.faults mem.old }
         ensures cause { IsErrOf result Stop.Fault → M.faults mem.old < M.faults mem.new }
         ensures faults { M.faults mem.old ≤ M.faults mem.new }
     {
-        self.counts.calls = self.counts.calls.saturating_add(1);
+        self.counts.count_call();
         let number = self.counts.calls;
         let view = SessionView {
             session,
@@ -162,6 +170,7 @@ impl World {
         answer: Answer,
     ) -> Result<(), Stop>
         requires { AnswerFits answer }
+        ensures ok { OnOk result (Answered self.old session number answer out.old.items self.new out.new.items) }
         ensures lane { self.new.lane ≡ self.old.lane }
         ensures want { IfErr result (λ stop. stop ≡ Stop.OutOfMemory) }
     {
@@ -196,19 +205,15 @@ impl World {
     /// Keeps and prints the receipt of a call, whose session is told its position.
     fn made(&mut self, out: &mut Vec<u8>, receipt: Receipt, way: Way) -> Result<(), Stop>
         requires { receipt.position.stamp < 2 ^ 31 }
+        ensures ok { OnOk result (self.new ≡ keeping self.old receipt way) }
+        ensures printed { OnOk result (out.new.items ≡ out.old.items ++ made_text receipt.position.session receipt.number receipt.reply receipt.position) }
         ensures lane { self.new.lane ≡ self.old.lane }
         ensures want { IfErr result (λ stop. stop ≡ Stop.OutOfMemory) }
     {
         let position = receipt.position;
         let session = position.session;
         self.last = position;
-        self.counts.made = self.counts.made.saturating_add(1);
-        if let Call::Get { .. } = receipt.call {
-            match way {
-                Way::Pending => self.counts.pending = self.counts.pending.saturating_add(1),
-                Way::Index => self.counts.index = self.counts.index.saturating_add(1),
-            }
-        }
+        self.counts.count_made(&receipt.call, way);
         let Ok(receipt) = compact(self.alloc, receipt) else {
             return Err(Stop::OutOfMemory);
         };
@@ -238,10 +243,12 @@ impl World {
         session: u32,
         number: u32,
     ) -> Result<(), Stop>
+        ensures ok { OnOk result (self.new ≡ giving_up self.old) }
+        ensures printed { OnOk result (out.new.items ≡ out.old.items ++ (event_text line.now ++ event_text (EventLine.Given session number))) }
         ensures lane { self.new.lane ≡ self.old.lane }
         ensures want { IfErr result (λ stop. stop ≡ Stop.OutOfMemory) }
     {
-        self.counts.given = self.counts.given.saturating_add(1);
+        self.counts.count_given();
         if event(self.alloc, out, line).is_err() {
             return Err(Stop::OutOfMemory);
         }
@@ -251,10 +258,14 @@ impl World {
         }
     }
 
-    /// Loads the lane's gate and mark, and appends the history and the summary.
+    /// Loads the lane's gate and mark, and appends the history in order of position, and the summary. The words stay.
     pub fn finish<M: Memory>(&mut self, mem: &mut M, out: &mut Vec<u8>) -> Result<(), Stop>
         requires { 98304 ≤ length (M.words mem.old) }
+        ensures rest { OnOk result (PrintsRest self.old (M.words mem.old) out.old.items out.new.items) }
+        ensures words { OnOk result (M.words mem.new ≡ M.words mem.old) }
         ensures size { length (M.words mem.new) ≡ length (M.words mem.old) }
+        ensures no_fault { OnOk result (M.faults mem.new ≡ M.faults mem.old) }
+        ensures want { IsErrOf result Stop.OutOfMemory → M.faults mem.new ≡ M.faults mem.old }
         ensures cause { IsErrOf result Stop.Fault → M.faults mem.old < M.faults mem.new }
         ensures faults { M.faults mem.old ≤ M.faults mem.new }
     {
@@ -265,71 +276,9 @@ impl World {
             return Err(Stop::Fault);
         };
         order(&mut self.history);
-        self.print_history(out)?;
-        self.print_summary(out, Gate::read(gate), mark)
-    }
-
-    fn print_history(&self, out: &mut Vec<u8>) -> Result<(), Stop>
-        ensures { IfErr result (λ stop. stop ≡ Stop.OutOfMemory) }
-    {
-        if history_head(self.alloc, out, self.history.len() as u64).is_err() {
-            return Err(Stop::OutOfMemory);
-        }
-        for receipt in self.history.iter() {
-            if history_line(self.alloc, out, receipt, true).is_err() {
-                return Err(Stop::OutOfMemory);
-            }
-        }
-        Ok(())
-    }
-
-    /// The map that the history leaves.
-    fn map_left(&self) -> Result<PlainMap, Stop>
-        ensures { IfErr result (λ stop. stop ≡ Stop.OutOfMemory) }
-    {
-        let mut map = PlainMap::new(self.alloc);
-        for receipt in self.history.iter() {
-            match &receipt.call {
-                Call::Get { .. } => {}
-                Call::Put { key, value } => {
-                    let Ok(value) = value.copy(self.alloc) else {
-                        return Err(Stop::OutOfMemory);
-                    };
-                    if map.insert(*key, value).is_err() {
-                        return Err(Stop::OutOfMemory);
-                    }
-                }
-                Call::Delete { key } => map.remove(*key),
-            }
-        }
-        Ok(map)
-    }
-
-    fn print_summary(&self, out: &mut Vec<u8>, gate: Gate, mark: u64) -> Result<(), Stop>
-        ensures { IfErr result (λ stop. stop ≡ Stop.OutOfMemory) }
-    {
-        let keys = self.map_left()?.len();
-        let alloc = self.alloc;
-        let Counts {
-            calls,
-            made,
-            given,
-            pending,
-            index,
-        } = self.counts;
-        let printed = lane_line(
-            alloc,
-            out,
-            LANE,
-            LaneState::Live,
-            gate.stamp,
-            gate.len,
-            mark,
-        )
-        .and_then(|()| calls_line(alloc, out, calls as u64, made, given, 0, given))
-        .and_then(|()| ways_line(alloc, out, 0, 0, pending, index, 0))
-        .and_then(|()| map_line(alloc, out, keys));
-        match printed {
+        let history = self.history.as_slice();
+        let gate = Gate::read(gate);
+        match print_rest(self.alloc, out, self.counts, history, LANE, gate, mark) {
             Ok(()) => Ok(()),
             Err(_) => Err(Stop::OutOfMemory),
         }

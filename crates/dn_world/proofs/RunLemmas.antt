@@ -1,0 +1,124 @@
+use Rattle.std.proofs.Common.{◌≡◌, ◌<◌, ◌≤◌, ◌+◌, ◌^◌, ℕ, List, [], ◌∷◌, ◌++◌, All, length, take, get_or, refl, ap, sym, ◌∙◌, subst, arith}
+use Rattle.std.proofs.lemmas.List.{append_assoc, append-nil, take_more, take_all, length-take-le}
+use Rattle.std.specs.List.Sorted.{IsPermutation}
+use Rattle.dn_hist.specs.declared.calls.Call.{Call as CallOf}
+use Rattle.dn_hist.specs.declared.calls.Call.TheVariants.{Get, Put, Delete}
+use Rattle.dn_model.specs.OneLog.{IsOneLog}
+use Rattle.dn_model.specs.Regions.{gate, mark}
+use Rattle.dn_word.specs.declared.positions.Position.{Position}
+use Rattle.dn_script.specs.Fit.{IsAskable, IsLine}
+use Rattle.dn_script.specs.declared.scripts.Line.{Line}
+use Rattle.dn_script.specs.declared.scripts.Line.TheVariants.{Call}
+use Rattle.dn_core.specs.Calling.{IsCall}
+use Rattle.dn_core.specs.Standing.{OwnsSlots}
+use Rattle.dn_core.proofs.History.{sound_legal, sound_map}
+use Rattle.dn_world.specs.Ended.{Ended, receipts_of}
+use Rattle.dn_world.specs.FinalPool.{IsFinalPool}
+use Rattle.dn_world.specs.Output.{end_text, events_text, history_text}
+use Rattle.dn_world.specs.Playing.{IsPlaying, CallsLine}
+use Rattle.dn_world.specs.Rest.{PrintsRest, counts_text}
+use Rattle.dn_world.specs.Run.{AreCalled, IsRun}
+use Rattle.dn_world.specs.State.{WorldState}
+use Rattle.dn_world.specs.World.{IsWorld, Calls, IsCalled}
+use Rattle.dn_world.specs.declared.counts.Counts.{Counts}
+
+-- a call that a line can ask for is one that a record can have
+is_call : (call : CallOf) → IsAskable call → IsCall call
+is_call (Get key) h = h
+is_call (Put key value) h = (h.0, record { is_short = h.1.short; are_bytes = h.1.bytes })
+is_call (Delete key) h = h
+
+-- ---- the calls of the lines so far
+called_length : (n : ℕ) (lines : List Line) (es : List Ended) → AreCalled n lines es → length es ≡ length lines
+called_length n [] [] h = refl
+called_length n [] (e ∷ es) h = absurd h
+called_length n (line ∷ lines) [] h = absurd h
+called_length n (Call session call ∷ lines) (e ∷ es) h = omega (arith, called_length (n + 1) lines es h.3)
+
+called_push : (n : ℕ) (lines : List Line) (es : List Ended) (session : ℕ) (call : CallOf) (e : Ended) → AreCalled n lines es → e.session ≡ session → e.number ≡ n + length es
+    → e.call ≡ call → AreCalled n (lines ++ Call session call ∷ []) (es ++ e ∷ [])
+called_push n [] [] session call e h s k c = (s, omega (arith, k), c, tt)
+called_push n [] (x ∷ es) session call e h s k c = absurd h
+called_push n (line ∷ lines) [] session call e h s k c = absurd h
+called_push n (Call t d ∷ lines) (x ∷ es) session call e h s k c = (h.0, h.1, h.2, called_push (n + 1) lines es session call e h.3 s (omega (arith, k)) c)
+
+events_push : (es : List Ended) (e : Ended) → events_text (es ++ e ∷ []) ≡ events_text es ++ end_text e.session e.number e.end
+events_push [] e = append-nil (end_text e.session e.number e.end)
+events_push (x ∷ es) e =
+    ap (λ t. end_text x.session x.number x.end ++ t) (events_push es e)
+    ∙ sym (append_assoc (end_text x.session x.number x.end) (events_text es) (end_text e.session e.number e.end))
+
+-- ---- a play
+-- no line was called
+pub play_starts : (lines : List Line) (words : List ℕ) (w : WorldState) (out : List ℕ) → IsWorld words w [] → out ≡ [] → IsPlaying lines 0 words w out
+play_starts lines words w out h e = record { ended = []; called = tt; world = h; printed = e }
+
+-- one more line was called
+play_goes_on : (lines : List Line) (i : ℕ) (session : ℕ) (call : CallOf) (words now : List ℕ) (w v : WorldState) (out new : List ℕ) → i < length lines
+    → Call session call ≡ get_or lines i (Call session call) → IsLine (Call session call) → length lines < 2 ^ 31 → IsPlaying lines i words w out
+    → Calls words w session call out now v new → IsPlaying lines (i + 1) now v new
+play_goes_on lines i session call words now w v out new lt at fits few p calls =
+    let so_far : length p.ended ≡ i = called_length 1 (take i lines) p.ended p.called ∙ length-take-le i lines (omega arith) in
+    let c : IsCalled now v p.ended call out new = calls p.ended p.world (is_call call fits.1) fits.0 (omega (arith, so_far)) in
+    let line : Line = Call session call in
+    let more : take i lines ++ line ∷ [] ≡ take (i + 1) lines = ap (λ x. take i lines ++ x ∷ []) at ∙ sym (take_more lines i line lt) in
+    record {
+      ended = p.ended ++ c.how ∷ [];
+      called = subst (λ ls. AreCalled 1 ls (p.ended ++ c.how ∷ [])) more
+          (called_push 1 (take i lines) p.ended session call c.how p.called (c.session ∙ sym fits.0) (omega (arith, c.number)) c.of);
+      world = c.world;
+      printed = c.printed ∙ ap (λ t. t ++ end_text c.how.session c.how.number c.how.end) p.printed ∙ sym (events_push p.ended c.how);
+    }
+
+line_fits : (lines : List Line) (i : ℕ) (line : Line) → i < length lines → line ≡ get_or lines i line → All IsLine lines → IsLine line
+line_fits lines i line lt at all = subst IsLine (sym at) (all i line lt)
+
+play_line : (lines : List Line) (i : ℕ) (line : Line) (words now : List ℕ) (w v : WorldState) (out new : List ℕ) → i < length lines
+    → line ≡ get_or lines i line → IsLine line → length lines < 2 ^ 31 → IsPlaying lines i words w out → CallsLine words w line out now v new → IsPlaying lines (i + 1) now v new
+play_line lines i (Call session call) words now w v out new lt at fits few p calls = play_goes_on lines i session call words now w v out new lt at fits few p calls
+
+pub play_more : (lines : List Line) (i : ℕ) (line : Line) (words now : List ℕ) (w v : WorldState) (out new : List ℕ) → i < length lines
+    → line ≡ get_or lines i line → All IsLine lines → length lines < 2 ^ 31 → IsPlaying lines i words w out → CallsLine words w line out now v new → IsPlaying lines (i + 1) now v new
+play_more lines i line words now w v out new lt at all few p calls = play_line lines i line words now w v out new lt at (line_fits lines i line lt at all) few p calls
+
+-- ---- what the calls left in the pool
+final_pool : (words : List ℕ) (w : WorldState) (ended : List Ended) → IsWorld words w ended → IsFinalPool w.lane.log.pool words (receipts_of ended)
+final_pool words w ended h =
+    let P : ℕ → Type 0 = λ n. OwnsSlots words n in
+    let Q : ℕ → Type 0 = λ n. IsOneLog words n h.sound.placed in
+    let lane : ℕ = w.lane.log.lane in
+    record {
+      format = h.sound.standing.format;
+      deeds = subst P h.number h.sound.standing.deeds;
+      placed = h.sound.placed;
+      one = subst Q h.number h.sound.standing.one;
+      wrote = h.sound.standing.wrote;
+      segments = record { log = w.lane.log; lane_is = h.number; pool_is = refl; len_is = h.sound.standing.length_is; space = h.sound.standing.space; directory = h.sound.standing.directory };
+      unfenced = ap (λ n. (gate words n).fenced) (sym h.number) ∙ h.sound.standing.gate_is.unfenced;
+      sealed = ap (λ n. (gate words n).len) (sym h.number) ∙ h.sound.standing.gate_is.sealed ∙ h.sound.standing.length_is;
+      stamp = h.stamp ∙ ap (λ (p : Position). p.stamp) h.last;
+    }
+
+-- all lines were called, and the rest was printed
+pub play_ends : (lines : List Line) (i pool : ℕ) (words now : List ℕ) (w : WorldState) (out new : List ℕ) → length lines ≤ i → w.lane.log.pool ≡ pool → IsPlaying lines i words w out
+    → PrintsRest w words out new → now ≡ words → IsRun pool lines now new
+play_ends lines i pool words now w out new all of p r same =
+    let once : IsPermutation (receipts_of p.ended) r.history = subst (λ rs. IsPermutation rs r.history) p.world.history r.once in
+    let run : IsRun w.lane.log.pool lines words new = record {
+      ended = p.ended;
+      history = r.history;
+      called = subst (λ ls. AreCalled 1 ls p.ended) (take_all i lines all) p.called;
+      own = p.world.own;
+      ends = p.world.ends;
+      stand = p.world.stand;
+      once = once;
+      order = r.order;
+      rises = p.world.rises;
+      legal = sound_legal words w.lane (receipts_of p.ended) r.history p.world.sound once r.order;
+      holds = sound_map words w.lane (receipts_of p.ended) r.history p.world.sound once r.order;
+      pool_is = final_pool words w p.ended p.world;
+      printed =
+          r.printed ∙ ap (λ t. t ++ (history_text r.history ++ counts_text w.counts r.history 1 (gate words 1) (mark words 1))) p.printed
+          ∙ ap (λ (c : Counts). events_text p.ended ++ (history_text r.history ++ counts_text c r.history 1 (gate words 1) (mark words 1))) p.world.counts;
+    } in
+    subst (λ n. IsRun n lines now new) of (subst (λ ws. IsRun w.lane.log.pool lines ws new) (sym same) run)

@@ -1,0 +1,10 @@
+pub mod Course
+pub mod Ended
+pub mod Inside
+pub mod FinalPool
+pub mod Output
+pub mod Playing
+pub mod Rest
+pub mod Run
+pub mod State
+pub mod World
