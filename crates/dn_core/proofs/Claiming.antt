@@ -67,7 +67,7 @@ claim_ends words log sealed fetch k placed rs located gate to segments after s t
   sound = record { placed = placed; standing = s; calling = refl; unbarred = refl };
   idle = refl;
   still = refl;
-  full = full_by_pool words log k.call segments s.space a.writes a.needs a.claims.2 a.has a.claims.1 le;
+  full = full_by_pool words log k.call segments s.space a.writes a.needs a.claims.2 a.claims.3 a.claims.1 le;
 }
 
 read_by : (words : List ℕ) (log : Log) (sealed : List Sealed) (fetch : Fetching) (k : Work) (placed : List Placed) (rs : List Receipt) (located : Located) (gate : ℕ) (to : Position) (segments : ℕ)

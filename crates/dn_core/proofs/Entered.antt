@@ -21,7 +21,7 @@ use Rattle.dn_lane.specs.Taken.{done_of}
 use Rattle.dn_lane.specs.declared.logged.Sealed.{Sealed}
 use Rattle.dn_core.specs.Calling.{IsCall}
 use Rattle.dn_core.specs.Standing.{kept_of, sealed_in}
-use Rattle.dn_core.specs.Written.{record_by, records_of, written_by as written_of, written_in, len_with, sealed_at}
+use Rattle.dn_core.specs.Written.{record_by, records_of, write_in, written_in, len_with, sealed_at}
 use Rattle.dn_core.proofs.Recorded.{records_push}
 
 -- ---- the record of a put or delete; a get has none
@@ -49,11 +49,6 @@ pub record_least : (call : Call) → IsWrite call → 1 ≤ record_words call
 record_least (Get key) w = absurd w
 record_least (Put key value) w = omega arith
 record_least (Delete key) w = omega arith
-
-pub record_most : (call : Call) → IsCall call → record_words call ≤ 130
-record_most (Get key) h = omega arith
-record_most (Put key value) h = let short = h.1.is_short in omega arith
-record_most (Delete key) h = omega arith
 
 pub record_fits : (call : Call) (at : ℕ) → IsWrite call → at % 1024 + record_words call ≤ 1024 → Fits at (record_of call)
 record_fits (Get key) at w h = absurd w
@@ -113,16 +108,16 @@ added_sealed placed pad at call sealed w e =
 -- the log then has the records of the calls with this one's behind them: a pad is none
 written_append : (xs ys : List Placed) → written_in (xs ++ ys) ≡ written_in xs ++ written_in ys
 written_append [] ys = refl
-written_append (x ∷ xs) ys = ap (λ rs. written_of x.entry ++ rs) (written_append xs ys) ∙ sym (append_assoc (written_of x.entry) (written_in xs) (written_in ys))
+written_append (x ∷ xs) ys = ap (λ rs. write_in x.entry ++ rs) (written_append xs ys) ∙ sym (append_assoc (write_in x.entry) (written_in xs) (written_in ys))
 
-record_written : (call : Call) → IsWrite call → written_of (record_of call) ≡ record_by call
+record_written : (call : Call) → IsWrite call → write_in (record_of call) ≡ record_by call
 record_written (Get key) w = absurd w
 record_written (Put key value) w = refl
 record_written (Delete key) w = refl
 
 added_written : (pad : Option (ℕ × ℕ)) (at : ℕ) (call : Call) → IsWrite call → written_in (added pad at call) ≡ record_by call
-added_written None at call w = append-nil (written_of (record_of call)) ∙ record_written call w
-added_written (Some pad) at call w = append-nil (written_of (record_of call)) ∙ record_written call w
+added_written None at call w = append-nil (write_in (record_of call)) ∙ record_written call w
+added_written (Some pad) at call w = append-nil (write_in (record_of call)) ∙ record_written call w
 
 pub added_wrote : (placed : List Placed) (pad : Option (ℕ × ℕ)) (at : ℕ) (rs : List Receipt) (r : Receipt) → IsWrite r.call → written_in placed ≡ records_of rs
     → written_in (placed ++ added pad at r.call) ≡ records_of (rs ++ r ∷ [])

@@ -43,6 +43,7 @@ use Rattle.dn_core.proofs.GateRaised.{gate_set, gate_raised}
 use Rattle.dn_core.proofs.GateStored.{all_staged}
 use Rattle.dn_core.proofs.Recorded.{read_records, read_len}
 use Rattle.dn_core.proofs.ReadMade.{read_at, read_register, read_standing, read_made, way_of}
+use Rattle.dn_core.proofs.PoolStored.{timed_at}
 use Rattle.dn_core.proofs.Rooms.{claims_for, has_all}
 use Rattle.dn_core.proofs.Fullness.{full_by_most}
 
@@ -50,11 +51,7 @@ use Rattle.dn_core.proofs.Fullness.{full_by_most}
 abbrev gate_in : List ℕ → Log → ℕ
 gate_in words log = word_at words (gate_at log.lane)
 
--- a call is of the gate's time wherever it is
-timed_at : (words : List ℕ) (log : Log) (k : Work) (rs : List Receipt) (place : Place) → IsTimed words log k rs → IsTimed words log (record k { place = place }) rs
-timed_at words log k rs place t = record { fits = t.fits; last = t.last; few = t.few }
-
--- it raises the gate's stamp, where the rule of positions says so
+-- a call raises the gate's stamp, where the rule of positions says so
 raising_at : (words : List ℕ) (log : Log) (k : Work) (rs : List Receipt) (to : Position) (place : Place) → IsTimed words log k rs → raised_of (need_of k 0) (stamp_in words log) ≡ Some to
     → position_of k.call (need_of k 0) (stamp_in words log) ≡ Some to → IsRaising words log (record k { place = place }) (gate_in words log) to
 raising_at words log k rs to place t u rule =
@@ -95,7 +92,7 @@ quietly_kept words log sealed fetch key view room place placed rs located None (
         placed = placed;
         standing = s;
         calling = record {
-          timed = timed_at words log k rs there t;
+          timed = timed_at words log log.spare k rs there t;
           knows = record { waits = refl; reads = refl; knows = knows; way = way; raising = raising_at words log k rs to there t u rule };
         };
         unbarred = refl;
@@ -116,7 +113,7 @@ stages_kept words log sealed fetch k placed rs located to s t w u enough =
         placed = placed;
         standing = s;
         calling = record {
-          timed = timed_at words log k rs there t;
+          timed = timed_at words log log.spare k rs there t;
           knows = record {
             writes = w;
             raising = raising_at words log k rs to there t u (rule_of_write k.call (need_of k 0) (stamp_in words log) w ∙ u);
@@ -149,14 +146,14 @@ claims_kept words log sealed fetch k placed rs located to false s t w u need e =
         placed = placed;
         standing = s;
         calling = record {
-          timed = timed_at words log k rs there t;
+          timed = timed_at words log log.spare k rs there t;
           knows = record {
             waits = refl;
             writes = w;
             raising = raising_at words log k rs to there t u (rule_of_write k.call (need_of k 0) (stamp_in words log) w ∙ u);
             needs = need;
             claims = claims_for log k.call s.space.fit t.fits need e;
-            has = refl;
+            has = tt;
           };
         };
         unbarred = refl;

@@ -16,7 +16,7 @@ use Rattle.dn_lane.specs.declared.answers.Way.{Way}
 use Rattle.dn_lane.specs.declared.answers.Way.TheVariants.{Pending, Index}
 use Rattle.dn_core.specs.Found.{way_by}
 use Rattle.dn_core.proofs.LastRecord.{from_start}
-use Rattle.dn_core.specs.Written.{record_by, records_of, written_by, written_in, has_record, way_in}
+use Rattle.dn_core.specs.Written.{record_by, records_of, write_in, written_in, has_record, way_in}
 
 -- The log leads to a key by a record of it exactly where one of the calls has sealed one.
 
@@ -57,7 +57,7 @@ one_by key p ps old true rest = rest (Some p) ∙ ap way_if (sym (found_more old
 one_by key p ps old false rest = rest old
 
 by_entry : (key offset : ℕ) (r : Record) (ps : List Placed) (old : Option Placed) → is_plain r ≡ true → Leads key ps
-    → way_by (entry_of (last_or old (cond (is_authority key r) (record { offset = offset; entry = r } ∷ authorities key 0 ps) (authorities key 0 ps)))) ≡ way_if (is_found old || is_among key (written_by r ++ written_in ps))
+    → way_by (entry_of (last_or old (cond (is_authority key r) (record { offset = offset; entry = r } ∷ authorities key 0 ps) (authorities key 0 ps)))) ≡ way_if (is_found old || is_among key (write_in r ++ written_in ps))
 by_entry key offset (entry.Put its value) ps old plain rest = one_by key (record { offset = offset; entry = entry.Put its value }) ps old (nat_eq its key) rest
 by_entry key offset (entry.Delete its) ps old plain rest = one_by key (record { offset = offset; entry = entry.Delete its }) ps old (nat_eq its key) rest
 by_entry key offset (entry.Share its cell opening) ps old plain rest = absurd (false≢true plain)
@@ -70,7 +70,7 @@ leads_along : (key : ℕ) (ps : List Placed) → All (λ (p : Placed). is_plain 
 leads_along key [] plain None = refl
 leads_along key [] plain (Some p) = refl
 leads_along key (p ∷ ps) plain old =
-    let Q : Bool → Type 0 = λ b. way_by (entry_of (last_or old (cond b (p ∷ authorities key 0 ps) (authorities key 0 ps)))) ≡ way_if (is_found old || is_among key (written_by p.entry ++ written_in ps)) in
+    let Q : Bool → Type 0 = λ b. way_by (entry_of (last_or old (cond b (p ∷ authorities key 0 ps) (authorities key 0 ps)))) ≡ way_if (is_found old || is_among key (write_in p.entry ++ written_in ps)) in
     subst Q (sym (from_start p.offset (is_authority key p.entry))) (by_entry key p.offset p.entry ps old (All-head (λ (q : Placed). is_plain q.entry ≡ true) p ps plain)
     (leads_along key ps (All-tail (λ (q : Placed). is_plain q.entry ≡ true) p ps plain)))
 

@@ -3,20 +3,14 @@ use Rattle.std.proofs.lemmas.Bool.Decides.{nat_tests}
 use Rattle.std.proofs.lemmas.List.{length-append}
 use Rattle.std.specs.Prelude.{option_to_list}
 use Rattle.dn_hist.specs.declared.calls.Call.{Call}
-use Rattle.dn_hist.specs.declared.calls.Call.TheVariants.{Get, Put, Delete}
 use Rattle.dn_log.specs.Log.{Log, reach_of, start_of, plan_of, IsFit}
 use Rattle.dn_log.specs.declared.claims.Claim.TheVariants.{Reading}
 use Rattle.dn_lane.specs.Fit.{ClaimsFor}
 use Rattle.dn_lane.specs.Spelled.{record_words}
 use Rattle.dn_core.specs.Calling.{IsCall}
+use Rattle.dn_core.proofs.Spares.{words_few}
 
 -- ---- a log that needs a segment has no spare one
--- the record of a call has a segment's words at most
-pub words_few : (call : Call) → IsCall call → record_words call ≤ 1024
-words_few (Get key) c = omega arith
-words_few (Put key value) c = omega (arith, c.1.is_short)
-words_few (Delete key) c = omega arith
-
 -- one segment behind the log's own reaches for any record
 reached : (n len words reach : ℕ) → len ≤ 1024 * n → words ≤ 1024 → reach ≡ n + 1 → nat_lt (1024 * reach) (start_of len words + words) ≡ true → ⊥
 reached n len words reach le few e need = grind (arith, nat_tests)
@@ -29,15 +23,15 @@ no_spare log words (Some g) e le few need = absurd (reached (length log.segments
 below : (n m : ℕ) → n + m ≤ 256 → (n == 256) ≡ false → n < 256
 below n m le e = grind (arith, nat_tests)
 
-few_segments : (log : Log) → IsFit log → (length log.segments == 256) ≡ false → length log.segments < 256
-few_segments log fit e =
+fewer_segments : (log : Log) → IsFit log → (length log.segments == 256) ≡ false → length log.segments < 256
+fewer_segments log fit e =
     let counted : length log.segments + length (option_to_list log.spare) ≤ 256 = omega (arith, fit.count, length-append log.segments (option_to_list log.spare)) in
     below (length log.segments) (length (option_to_list log.spare)) counted e
 
 -- and where it has fewer than it may have, it can claim one
 pub claims_for : (log : Log) (call : Call) → IsFit log → IsCall call → (plan_of log (record_words call)).need_segment ≡ true → (length log.segments == 256) ≡ false
     → ClaimsFor log (Reading log.pool (length log.segments))
-claims_for log call fit c need e = (refl, few_segments log fit e, no_spare log (record_words call) log.spare refl fit.len (words_few call c) need, refl)
+claims_for log call fit c need e = (refl, fewer_segments log fit e, no_spare log (record_words call) log.spare refl fit.len (omega (arith, words_few call c)) need, refl)
 
 pub has_all : (n : ℕ) → (n == 256) ≡ true → 256 ≡ n
 has_all n e = grind (arith, nat_tests)

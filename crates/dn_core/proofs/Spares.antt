@@ -42,8 +42,8 @@ apart_more gs g h a = record { each = λ i j il jl e. ends i j (cases_lt i (leng
   ends i j (inr x) (inl y) il jl e = absurd (omega (arith, last_differs gs g j h y, last_is gs g i (omega (arith, il, long, x)), e))
   ends i j (inr x) (inr y) il jl e = omega (arith, il, jl, long, x, y)
 
--- ---- a record of a call fits one more segment
-words_few : (call : Call) → IsCall call → record_words call ≤ 130
+-- ---- a record of a call has 130 words at most, and fits one more segment
+pub words_few : (call : Call) → IsCall call → record_words call ≤ 130
 words_few (Get key) f = omega arith
 words_few (Put key value) f = let s = f.1.is_short in omega (arith, s)
 words_few (Delete key) f = omega arith

@@ -11,7 +11,8 @@ use Rattle.dn_model.proofs.LogLaws.{spelled_within, tiles_one}
 use Rattle.dn_lane.specs.Spelled.{record_words, IsWrite}
 use Rattle.dn_lane.specs.Staged.{spelled, placed, directory_staged, pad_staged, staged_of}
 use Rattle.dn_core.specs.Calling.{IsCall}
-use Rattle.dn_core.proofs.Entered.{record_of, is_record, is_spelled, record_length, record_least, record_most, record_fits, added}
+use Rattle.dn_core.proofs.Spares.{words_few}
+use Rattle.dn_core.proofs.Entered.{record_of, is_record, is_spelled, record_length, record_least, record_fits, added}
 use Rattle.dn_core.proofs.Reaching.{AreThere, there_left, there_right, Grows, stand_placed}
 
 -- What the words spell from the sealed length on, once all that a seal staged stands in the pool.
@@ -78,7 +79,7 @@ pub added_tiled : (words : List ℕ) (log : Log) (call : Call) (segments : List 
 added_tiled words log call segments spare w h g there =
     let n : ℕ = record_words call in
     let least : 1 ≤ n = record_least call w in
-    let most : n ≤ 1024 = (let few = record_most call h in omega arith) in
+    let most : n ≤ 1024 = (let few = words_few call h in omega arith) in
     let at : ℕ = start_of log.len n in
     let pad : Option (ℕ × ℕ) = (plan_of log n).pad in
     let rest : AreThere words (pad_staged log pad ++ placed log at (spelled call)) = there_right words (directory_staged log (new_segment_of log (plan_of log n))) (pad_staged log pad ++ placed log at (spelled call)) there in

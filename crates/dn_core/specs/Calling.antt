@@ -45,9 +45,9 @@ pub record AreFlowing (words : List ℕ) (staged all : List Staged) : Type 0 whe
   pub there : (s : Staged) → Contains all s → Contains staged s ⊎ (word_at words s.at ≡ s.word)
   pub only : (s : Staged) → Contains staged s → Contains all s
 
--- the load of a claim knows how many segments the lane has, and its add finds a counter below the pool's number of segments
+-- the add of a claim finds a counter below the pool's number of segments
 abbrev pub HasSegment : List ℕ → Log → Claim → Type 0
-HasSegment words log (Reading pool segments) = segments ≡ length log.segments
+HasSegment words log (Reading pool segments) = Unit {0}
 HasSegment words log (Taking pool segments) = word_at words 1 < log.pool
 
 pub record AtFetch (words : List ℕ) (log : Log) (staged : List Staged) (fetch : Fetching) (k : Work) (placed : List Placed) (floor : ℕ) : Type 0 where

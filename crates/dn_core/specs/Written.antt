@@ -26,18 +26,18 @@ records_of [] = []
 records_of (r ∷ rs) = record_by r.call ++ records_of rs
 
 -- the puts and deletes of a log
-abbrev pub written_by : Record → List Record
-written_by (entry.Put key value) = entry.Put key value ∷ []
-written_by (entry.Delete key) = entry.Delete key ∷ []
-written_by (entry.Share key cell opening) = []
-written_by (entry.Unshare key at) = []
-written_by (entry.Loose key value) = []
-written_by (entry.LooseDelete key) = []
-written_by (entry.Pad words) = []
+abbrev pub write_in : Record → List Record
+write_in (entry.Put key value) = entry.Put key value ∷ []
+write_in (entry.Delete key) = entry.Delete key ∷ []
+write_in (entry.Share key cell opening) = []
+write_in (entry.Unshare key at) = []
+write_in (entry.Loose key value) = []
+write_in (entry.LooseDelete key) = []
+write_in (entry.Pad words) = []
 
 abbrev pub written_in : List Placed → List Record
 written_in [] = []
-written_in (p ∷ ps) = written_by p.entry ++ written_in ps
+written_in (p ∷ ps) = write_in p.entry ++ written_in ps
 
 -- ---- the log's length in words
 -- behind the record of a call, where it was so long: a get seals none

@@ -22,7 +22,7 @@ use Rattle.dn_core.specs.Written.{len_with, len_from}
 use Rattle.dn_core.proofs.Begins.{begun_sound}
 use Rattle.dn_core.proofs.History.{sound_fits}
 use Rattle.dn_core.proofs.Recorded.{len_push}
-use Rattle.dn_world.specs.Course.{EndsBy, AreEnded, IsNext, ArePlaced, first_of, last_of}
+use Rattle.dn_world.specs.Course.{EndsBy, AreEnded, IsNext, ArePlaced, first_of, last_position}
 use Rattle.dn_world.specs.Ended.{Ended, Made, Full, receipts_of, HasItsReceipt}
 use Rattle.dn_world.specs.State.{WorldState, with_call, keeping, giving_up}
 use Rattle.dn_world.specs.World.{IsWorld, IsTold, IsCalled, Answered, counts_of}
@@ -94,7 +94,7 @@ made_world words now w l ended call receipt way stamp h few lane pool is a =
     let told : IsTold (receipts_of ended ++ receipt ∷ []) (length ended + 1) receipt.position =
     told_made (receipts_of ended) receipt (length ended) w.last h.told a.receipt_is.session a.receipt_is.number a.receipt_is.later in
     let ends : AreEnded w.lane.log.pool [] (ended ++ e ∷ []) = ended_push w.lane.log.pool [] ended e h.ends (made_ends words now w l ended (length ended + 1) call receipt way stamp pool a) in
-    let next : IsNext (last_of (first_of 1) (receipts_of ended)) receipt =
+    let next : IsNext (last_position (first_of 1) (receipts_of ended)) receipt =
     subst (λ p. IsNext p receipt) h.last (made_stands now w l (receipts_of ended) (length ended + 1) call receipt way stamp is h.session a) in
     record {
       sound = subst (IsSound now l) more a.sound;
@@ -105,7 +105,7 @@ made_world words now w l ended call receipt way stamp h few lane pool is a =
       own = All-push HasItsReceipt ended e h.own (a.receipt_is.call, a.receipt_is.number, a.receipt_is.session);
       ends = subst (λ n. AreEnded n [] (ended ++ e ∷ [])) (sym pool) ends;
       stand = subst (ArePlaced (first_of 1)) more (placed_push (first_of 1) (receipts_of ended) receipt h.stand next);
-      last = sym (last_push (first_of 1) (receipts_of ended) receipt) ∙ ap (last_of (first_of 1)) more;
+      last = sym (last_push (first_of 1) (receipts_of ended) receipt) ∙ ap (last_position (first_of 1)) more;
       session = a.receipt_is.session;
       stamp = ap (λ n. (gate now n).stamp) (sym lane) ∙ a.receipt_is.reached;
       told = subst (λ rs. IsTold rs (length (ended ++ e ∷ [])) receipt.position) more (subst (λ n. IsTold (receipts_of ended ++ receipt ∷ []) n receipt.position) calls told);
@@ -140,7 +140,7 @@ full_world words now w l ended call counter segments stamp h few lane pool is a 
       own = All-push HasItsReceipt ended e h.own tt;
       ends = subst (λ n. AreEnded n [] (ended ++ e ∷ [])) (sym pool) ends;
       stand = subst (ArePlaced (first_of 1)) same h.stand;
-      last = h.last ∙ ap (last_of (first_of 1)) same;
+      last = h.last ∙ ap (last_position (first_of 1)) same;
       session = h.session;
       stamp = ap (λ n. (gate now n).stamp) (sym lane) ∙ a.still ∙ is;
       told = subst (λ rs. IsTold rs (length (ended ++ e ∷ [])) w.last) same (subst (λ n. IsTold (receipts_of ended) n w.last) calls told);

@@ -12,7 +12,7 @@ use Rattle.dn_print.specs.SummaryLine.{lane_text, calls_text, ways_text, map_tex
 use Rattle.dn_print.specs.declared.summary_lines.LaneState.TheVariants.{Live}
 use Rattle.dn_script.specs.declared.scripts.Line.{Line}
 use Rattle.dn_core.specs.Written.{len_from}
-use Rattle.dn_world.specs.Course.{first_of, last_of}
+use Rattle.dn_world.specs.Course.{first_of, last_position}
 use Rattle.dn_world.specs.Ended.{End, Made, Full, Ended, with_receipt, receipts_of}
 use Rattle.dn_world.specs.Output.{end_text, events_text, lines_text, given_by, given_in, if_get, pending_way, index_way, pending_by, pending_in, index_by, index_in}
 use Rattle.dn_world.specs.Run.{IsRun}
@@ -33,7 +33,7 @@ sheet events lines stands stamp sealed merged calls made given pending index key
 -- what is printed of calls that ended so, with these receipts
 abbrev printed_with : List Ended → List Receipt → List ℕ
 printed_with es rs =
-    sheet (events_text es) (lines_text rs) (length rs) (last_of (first_of 1) rs).stamp (len_from 0 rs) 0 (length es) (length rs) (given_in es) (pending_in es) (index_in es)
+    sheet (events_text es) (lines_text rs) (length rs) (last_position (first_of 1) rs).stamp (len_from 0 rs) 0 (length es) (length rs) (given_in es) (pending_in es) (index_in es)
     (len (map_left rs))
 
 abbrev printed_of : List Ended → List ℕ
@@ -56,7 +56,7 @@ length_bare : (rs : List Receipt) → length (bares rs) ≡ length rs
 length_bare [] = refl
 length_bare (r ∷ rs) = ap suc (length_bare rs)
 
-last_bare : (last : Position) (rs : List Receipt) → last_of last (bares rs) ≡ last_of last rs
+last_bare : (last : Position) (rs : List Receipt) → last_position last (bares rs) ≡ last_position last rs
 last_bare last [] = refl
 last_bare last (r ∷ rs) = last_bare r.position rs
 

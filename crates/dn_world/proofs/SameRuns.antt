@@ -16,7 +16,7 @@ use Rattle.dn_core.specs.Placing.{position_of}
 use Rattle.dn_core.specs.Sound.{IsFull, IsWayOf}
 use Rattle.dn_core.specs.Written.{len_with, len_from, has_record}
 use Rattle.dn_world.specs.Course.{EndsBy, AreEnded, IsNext, ArePlaced}
-use Rattle.dn_world.specs.Ended.{End, Made, Full, Ended, with_receipt, receipts_of, IsReceiptOf, HasItsReceipt}
+use Rattle.dn_world.specs.Ended.{End, Made, Full, Ended, with_receipt, receipts_of, IsReceiptIn, HasItsReceipt}
 use Rattle.dn_world.specs.Run.{AreCalled}
 
 -- Two runs of the same lines end alike: but for the place of a record, and for the way of a put or a delete, each call ends as
@@ -112,7 +112,7 @@ BothAlike end fin es fs = (bare_end end ≡ bare_end fin) × (bare_all es ≡ ba
 
 same_made : (pool : ℕ) (e f : Ended) (es fs : List Ended) (before prior : List Receipt) (last : Position) (m : Bytes) (r s : Receipt) (way other : Way)
     → EndAlike pool es fs → e.call ≡ f.call → e.number ≡ f.number → bares before ≡ bares prior
-    → IsReceiptOf e (Made r way) → IsReceiptOf f (Made s other) → IsWayOf e.call way before → IsWayOf f.call other prior
+    → IsReceiptIn e (Made r way) → IsReceiptIn f (Made s other) → IsWayOf e.call way before → IsWayOf f.call other prior
     → IsNext last r → IsNext last s → r.reply ≡ reply_of r.call m → s.reply ≡ reply_of s.call m
     → Goes pool (before ++ r ∷ []) r.position (map_after r.call m) es → Goes pool (prior ++ s ∷ []) s.position (map_after s.call m) fs
     → BothAlike (Made r way) (Made s other) es fs
@@ -142,7 +142,7 @@ same_full pool e f es fs before prior last m counter segments other most rest b 
 
 same_first : (pool : ℕ) (e f : Ended) (es fs : List Ended) (before prior : List Receipt) (last : Position) (m : Bytes) (end fin : End)
     → EndAlike pool es fs → e.call ≡ f.call → e.number ≡ f.number → bares before ≡ bares prior
-    → IsReceiptOf e end → IsReceiptOf f fin → All HasItsReceipt es → All HasItsReceipt fs
+    → IsReceiptIn e end → IsReceiptIn f fin → All HasItsReceipt es → All HasItsReceipt fs
     → EndsBy pool before e.call end → EndsBy pool prior f.call fin → AreEnded pool (before ++ with_receipt end []) es → AreEnded pool (prior ++ with_receipt fin []) fs
     → ArePlaced last (with_receipt end (receipts_of es)) → ArePlaced last (with_receipt fin (receipts_of fs))
     → IsLegalFrom m (with_receipt end (receipts_of es)) → IsLegalFrom m (with_receipt fin (receipts_of fs)) → BothAlike end fin es fs

@@ -33,6 +33,6 @@ ArePlaced last [] = Unit {0}
 ArePlaced last (r ∷ rs) = IsNext last r × ArePlaced r.position rs
 
 -- the position of the last of them
-abbrev pub last_of : Position → List Receipt → Position
-last_of last [] = last
-last_of last (r ∷ rs) = last_of r.position rs
+abbrev pub last_position : Position → List Receipt → Position
+last_position last [] = last
+last_position last (r ∷ rs) = last_position r.position rs

@@ -26,9 +26,9 @@ receipts_of [] = []
 receipts_of (e ∷ es) = with_receipt e.end (receipts_of es)
 
 -- the receipt of a call that was made is that call's
-abbrev pub IsReceiptOf : Ended → End → Type 0
-IsReceiptOf e (Made receipt way) = (receipt.call ≡ e.call) × (receipt.number ≡ e.number) × (receipt.position.session ≡ e.session)
-IsReceiptOf e (Full counter segments) = Unit {0}
+abbrev pub IsReceiptIn : Ended → End → Type 0
+IsReceiptIn e (Made receipt way) = (receipt.call ≡ e.call) × (receipt.number ≡ e.number) × (receipt.position.session ≡ e.session)
+IsReceiptIn e (Full counter segments) = Unit {0}
 
 abbrev pub HasItsReceipt : Ended → Type 0
-HasItsReceipt e = IsReceiptOf e e.end
+HasItsReceipt e = IsReceiptIn e e.end

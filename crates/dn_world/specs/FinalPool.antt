@@ -8,7 +8,7 @@ use Rattle.dn_model.specs.Regions.{gate}
 use Rattle.dn_core.specs.Directory.{HasSegments}
 use Rattle.dn_core.specs.Standing.{OwnsSlots}
 use Rattle.dn_core.specs.Written.{written_in, records_of, len_from}
-use Rattle.dn_world.specs.Course.{first_of, last_of}
+use Rattle.dn_world.specs.Course.{first_of, last_position}
 
 -- The pool that a run left, of which these are the receipts: its format word tells its segments; every slot is the lane's; the
 -- log that the words spell has the record of each put and delete in their order, and no other; it lies in segments of its own,
@@ -23,4 +23,4 @@ pub record IsFinalPool (pool : ℕ) (words : List ℕ) (receipts : List Receipt)
   pub segments : HasSegments words 1 pool (len_from 0 receipts)
   pub unfenced : (gate words 1).fenced ≡ false
   pub sealed : (gate words 1).len ≡ len_from 0 receipts
-  pub stamp : (gate words 1).stamp ≡ (last_of (first_of 1) receipts).stamp
+  pub stamp : (gate words 1).stamp ≡ (last_position (first_of 1) receipts).stamp

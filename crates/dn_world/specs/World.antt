@@ -10,7 +10,7 @@ use Rattle.dn_print.specs.CallLine.{made_text, event_text}
 use Rattle.dn_print.specs.declared.call_lines.EventLine.TheVariants as event
 use Rattle.dn_core.specs.Calling.{IsCall}
 use Rattle.dn_core.specs.Sound.{IsSound}
-use Rattle.dn_world.specs.Course.{AreEnded, ArePlaced, first_of, last_of}
+use Rattle.dn_world.specs.Course.{AreEnded, ArePlaced, first_of, last_position}
 use Rattle.dn_world.specs.Ended.{Ended, receipts_of, HasItsReceipt}
 use Rattle.dn_world.specs.Output.{end_text, given_in, pending_in, index_in}
 use Rattle.dn_world.specs.State.{WorldState, keeping, giving_up}
@@ -47,7 +47,7 @@ pub record IsWorld (words : List ℕ) (w : WorldState) (ended : List Ended) : Ty
   pub own : All HasItsReceipt ended
   pub ends : AreEnded w.lane.log.pool [] ended
   pub stand : ArePlaced (first_of 1) (receipts_of ended)
-  pub last : w.last ≡ last_of (first_of 1) (receipts_of ended)
+  pub last : w.last ≡ last_position (first_of 1) (receipts_of ended)
   pub session : w.last.session ≡ 1
   pub stamp : (gate words 1).stamp ≡ w.last.stamp
   pub told : IsTold (receipts_of ended) (length ended) w.last
