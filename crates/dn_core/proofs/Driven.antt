@@ -14,8 +14,10 @@ use Rattle.dn_lane.specs.declared.answers.Turn.{Turn}
 use Rattle.dn_lane.specs.declared.answers.Turn.TheVariants.{More, Done}
 use Rattle.dn_lane.specs.declared.places.Work.{Work}
 use Rattle.dn_core.specs.Placing.{position_of}
-use Rattle.dn_core.specs.Sound.{IsReceiptOf, IsWayOf, IsFull, Answers, GoesOn, IsKept}
+use Rattle.dn_core.specs.Sound.{IsSound, IsReceiptOf, IsWayOf, IsFull, Answers, GoesOn, IsKept}
+use Rattle.dn_core.specs.Image.{brought, IsExact, ExactBy}
 use Rattle.dn_core.specs.Written.{len_from, sealed_at}
+use Rattle.dn_core.proofs.ExactKept.{ExactAfter, step_exact}
 use Rattle.dn_core.proofs.Kept.{step_kept}
 
 -- ---- what is kept for a call is kept for it at a later place
@@ -75,3 +77,28 @@ pub driven_on : (words now : List ℕ) (l after : LaneState) (k : Work) (stamp :
 driven_on words now l after k stamp rs action word turn g n p e f m =
     let Q : Turn → Type 0 = λ x. IsKept k stamp now after rs x in
     subst Q m (driven_to words now l after k stamp rs action word turn g n p e f)
+
+-- ---- its words stay exact
+exact_to : (words now : List ℕ) (l after : LaneState) (rs : List Receipt) (lane : ℕ) (action : Action) (word : ℕ) (turn : Turn) → IsSound words l rs → l.log.lane ≡ lane
+    → IsExact words lane rs (brought l.work (len_from 0 rs)) → next_of l ≡ Some action → Performs action word words now → after ≡ (taken_of l word).lane → turn ≡ (taken_of l word).turn
+    → ExactAfter now lane rs after turn
+exact_to words now l after rs lane action word turn s n x next p e f =
+    let Before : ℕ → Type 0 = λ m. IsExact words m rs (brought l.work (len_from 0 rs)) in
+    let Lane : ℕ → Type 0 = λ m. ExactAfter now m rs (taken_of l word).lane (taken_of l word).turn in
+    let P : LaneState → Type 0 = λ y. ExactAfter now lane rs y (taken_of l word).turn in
+    let Q : Turn → Type 0 = λ y. ExactAfter now lane rs after y in
+    subst Q (sym f) (subst P (sym e) (subst Lane n (step_exact words now l rs action word s (subst Before (sym n) x) next p)))
+
+pub exact_done : (words now : List ℕ) (l after : LaneState) (rs : List Receipt) (lane : ℕ) (action : Action) (word : ℕ) (turn : Turn) (answer : Answer) → IsSound words l rs → l.log.lane ≡ lane
+    → IsExact words lane rs (brought l.work (len_from 0 rs)) → next_of l ≡ Some action → Performs action word words now → after ≡ (taken_of l word).lane → turn ≡ (taken_of l word).turn → turn ≡ Done answer
+    → ExactBy now lane rs answer
+exact_done words now l after rs lane action word turn answer s n x next p e f d =
+    let Q : Turn → Type 0 = λ y. ExactAfter now lane rs after y in
+    subst Q d (exact_to words now l after rs lane action word turn s n x next p e f)
+
+pub exact_on : (words now : List ℕ) (l after : LaneState) (rs : List Receipt) (lane : ℕ) (action : Action) (word : ℕ) (turn : Turn) → IsSound words l rs → l.log.lane ≡ lane
+    → IsExact words lane rs (brought l.work (len_from 0 rs)) → next_of l ≡ Some action → Performs action word words now → after ≡ (taken_of l word).lane → turn ≡ (taken_of l word).turn → turn ≡ More
+    → IsExact now lane rs (brought after.work (len_from 0 rs))
+exact_on words now l after rs lane action word turn s n x next p e f m =
+    let Q : Turn → Type 0 = λ y. ExactAfter now lane rs after y in
+    subst Q m (exact_to words now l after rs lane action word turn s n x next p e f)

@@ -22,7 +22,7 @@ use Rattle.dn_core.proofs.GateStored.{format_stays, gate_space, gate_directory, 
 
 -- ---- a gate whose stamp alone is raised
 -- the length of a log that fits has its 24 bits
-log_short : (log : Log) → IsFit log → log.len < 2 ^ 24
+pub log_short : (log : Log) → IsFit log → log.len < 2 ^ 24
 log_short log fit = omega (arith, fit.count, fit.len, length-append log.segments (option_to_list log.spare))
 
 -- the new gate word reads as it was made

@@ -31,10 +31,10 @@ use Rattle.dn_core.proofs.Flowing.{flow_kept}
 use Rattle.dn_core.proofs.Sealing.{seal_kept}
 
 -- ---- a load changes nothing
-loaded : (words : List ℕ) (at : ℕ) → words_after (Load at) words ≡ words
+pub loaded : (words : List ℕ) (at : ℕ) → words_after (Load at) words ≡ words
 loaded words at = set-get_or words at 0
 
-fetch_loaded_at : (words : List ℕ) (fetch : Fetching) (place : FetchPlace) → words_after (next_at fetch place) words ≡ words
+pub fetch_loaded_at : (words : List ℕ) (fetch : Fetching) (place : FetchPlace) → words_after (next_at fetch place) words ≡ words
 fetch_loaded_at words fetch Idle = loaded words _
 fetch_loaded_at words fetch Directory = loaded words _
 fetch_loaded_at words fetch (Header from) = loaded words _
@@ -46,7 +46,7 @@ unchanged words now k stamp rs taken e h = let P : List ℕ → Type 0 = λ x. K
 
 -- ---- by the place of the call, and what is staged
 -- the lane's turn after its next action
-abbrev TurnKept : List ℕ → Log → List Sealed → List Staged → Fetching → Work → List Receipt → Type 0
+abbrev pub TurnKept : List ℕ → Log → List Sealed → List Staged → Fetching → Work → List Receipt → Type 0
 TurnKept words log sealed staged fetch k rs =
     Keeps k (stamp_in words log) (words_after (flow_first (running log sealed staged fetch k) staged k) words) rs
     (flow_or (running log sealed staged fetch k) staged k (word_at words (at_of (flow_first (running log sealed staged fetch k) staged k))))
@@ -55,7 +55,7 @@ TurnKept words log sealed staged fetch k rs =
 none_waits : {A : Type 0} (x : Staged) (xs : List Staged) → (x ∷ xs) ≡ [] → A
 none_waits x xs e = absurd (cc e)
 
-placed_kept : (words : List ℕ) (log : Log) (sealed : List Sealed) (staged : List Staged) (fetch : Fetching) (call : Call) (view : SessionView) (room : List ℕ) (place : Place) (placed : List Placed) (rs : List Receipt)
+pub placed_kept : (words : List ℕ) (log : Log) (sealed : List Sealed) (staged : List Staged) (fetch : Fetching) (call : Call) (view : SessionView) (room : List ℕ) (place : Place) (placed : List Placed) (rs : List Receipt)
     → IsStanding words log sealed placed rs → IsCalling words log staged fetch (call_at call view room place) placed rs
     → TurnKept words log sealed staged fetch (call_at call view room place) rs
 placed_kept words log sealed [] fetch call view room at.Look placed rs s c =

@@ -12,6 +12,13 @@ pub mod Spares
 pub mod Fullness
 pub mod Claiming
 pub mod StagedKinds
+pub mod LogWords
+pub mod InTurn
+pub mod Brought
+pub mod Exact
+pub mod OwnWords
+pub mod ExactKept
+pub mod Imaged
 pub mod Flowing
 pub mod Reaching
 pub mod Entered

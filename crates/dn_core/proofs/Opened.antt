@@ -14,14 +14,14 @@ use Rattle.dn_core.specs.Opened.{first_deed, IsOpened}
 use Rattle.dn_core.specs.Sound.{IsSound}
 
 -- the deed of the opening reads as it was made
-first_again : (lane : ℕ) → lane < 64 → deed_of (first_deed lane) ≡ record { state = Owned; epoch = 1; lane = lane; floor = 0 }
+pub first_again : (lane : ℕ) → lane < 64 → deed_of (first_deed lane) ≡ record { state = Owned; epoch = 1; lane = lane; floor = 0 }
 first_again lane lt = grind (arith, common_steps)
 
 -- but for the format and the deeds all words are 0
-zero_at : (words now : List ℕ) (segments lane at : ℕ) → IsZeros words → IsOpened words now segments lane → at ≢ 0 → (at < 192) ⊎ (256 ≤ at) → word_at now at ≡ 0
+pub zero_at : (words now : List ℕ) (segments lane at : ℕ) → IsZeros words → IsOpened words now segments lane → at ≢ 0 → (at < 192) ⊎ (256 ≤ at) → word_at now at ≡ 0
 zero_at words now segments lane at z o other region = o.others at other region ∙ z.each at
 
-gate_zero : (words now : List ℕ) (segments lane n : ℕ) → IsZeros words → IsOpened words now segments lane → n < 64 → word_at now (gate_at n) ≡ 0
+pub gate_zero : (words now : List ℕ) (segments lane n : ℕ) → IsZeros words → IsOpened words now segments lane → n < 64 → word_at now (gate_at n) ≡ 0
 gate_zero words now segments lane n z o lt = zero_at words now segments lane (gate_at n) z o (λ e. absurd (omega (arith, e))) (inl (omega (arith, lt)))
 
 -- an empty history leaves nothing

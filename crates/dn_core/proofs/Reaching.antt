@@ -32,10 +32,10 @@ there_left words xs ys h = record { each = λ s c. h.each s (Contains-append_lef
 pub there_right : (words : List ℕ) (xs ys : List Staged) → AreThere words (xs ++ ys) → AreThere words ys
 there_right words xs ys h = record { each = λ s c. h.each s (Contains-append_right xs ys s c) }
 
-there_head : (words : List ℕ) (x : Staged) (xs : List Staged) → AreThere words (x ∷ xs) → word_at words x.at ≡ x.word
+pub there_head : (words : List ℕ) (x : Staged) (xs : List Staged) → AreThere words (x ∷ xs) → word_at words x.at ≡ x.word
 there_head words x xs h = h.each x (0, omega arith, refl)
 
-there_tail : (words : List ℕ) (x : Staged) (xs : List Staged) → AreThere words (x ∷ xs) → AreThere words xs
+pub there_tail : (words : List ℕ) (x : Staged) (xs : List Staged) → AreThere words (x ∷ xs) → AreThere words xs
 there_tail words x xs h = record { each = λ s c. h.each s (let lt = c.1 in (suc c.0, omega arith, c.2)) }
 
 -- ---- the log that a plan leaves

@@ -64,7 +64,7 @@ grown_names words log end segments spare g d =
     record { named = g.named; no_more = subst P (sym g.reach) d.no_more }
 
 -- a log's words fit the gate's bits
-end_fits : (words : List ℕ) (log : Log) (end : ℕ) (segments : List ℕ) (spare : Option ℕ) → Grows words log end segments spare → IsFit log → end < 2 ^ 24
+pub end_fits : (words : List ℕ) (log : Log) (end : ℕ) (segments : List ℕ) (spare : Option ℕ) → Grows words log end segments spare → IsFit log → end < 2 ^ 24
 end_fits words log end segments spare g fit =
     let few = fit.count in
     let enough = g.enough in

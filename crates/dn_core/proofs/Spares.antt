@@ -48,7 +48,7 @@ words_few (Get key) f = omega arith
 words_few (Put key value) f = let s = f.1.is_short in omega (arith, s)
 words_few (Delete key) f = omega arith
 
-start_near : (len n words : ℕ) → len ≤ 1024 * n → words ≤ 130 → start_of len words + words ≤ 1024 * (n + 1)
+pub start_near : (len n words : ℕ) → len ≤ 1024 * n → words ≤ 130 → start_of len words + words ≤ 1024 * (n + 1)
 start_near len n words l w = grind (arith, common_steps)
 
 pub one_more_reaches : (log : Log) (call : Call) (g : ℕ) → IsCall call → log.spare ≡ Some g → log.len ≤ 1024 * length log.segments

@@ -34,10 +34,11 @@ word_by at header words offset = if nat_lt offset at then header else slice_inde
 abbrev pub log_word : Log → Call → ℕ → ℕ
 log_word log call offset = word_by (start_of log.len (record_words call)) (head_word (head.Pad (rest_of log.len))) (spelled call) offset
 
--- a word of the log behind what is sealed, and within the segments
+-- a word of the log behind what is sealed, and within the segments: before the record it is the first one
 pub record IsLogWord (log : Log) (call : Call) (s : Staged) : Type 0 where
   pub offset : ℕ
   pub past : log.len ≤ offset
+  pub begins : offset < start_of log.len (record_words call) → offset ≡ log.len
   pub within : offset < 1024 * length (reach_of log)
   pub at_is : s.at ≡ word_of log offset
   pub word_is : s.word ≡ log_word log call offset
@@ -69,15 +70,15 @@ placed_kind log from (w ∷ ws) s h = elim (cons_cases (let t : Staged = record 
       record { nth = suc n.nth; inside = omega (arith, n.inside); at_is = n.at_is ∙ ap (word_of log) (omega arith); word_is = n.word_is })
 ]
 
-length_spelled : (call : Call) → length (spelled call) ≡ record_words call
+pub length_spelled : (call : Call) → length (spelled call) ≡ record_words call
 length_spelled (Get key) = refl
 length_spelled (Put key value) = length-spelling (entry.Put key value)
 length_spelled (Delete key) = refl
 
-word_before : (at header offset : ℕ) (words : List ℕ) → offset < at → word_by at header words offset ≡ header
+pub word_before : (at header offset : ℕ) (words : List ℕ) → offset < at → word_by at header words offset ≡ header
 word_before at header offset words h = ap (λ (b : Bool). if b then header else slice_index words (offset - at)) (lt-ltb offset at h)
 
-word_behind : (at header nth : ℕ) (words : List ℕ) → word_by at header words (at + nth) ≡ slice_index words nth
+pub word_behind : (at header nth : ℕ) (words : List ℕ) → word_by at header words (at + nth) ≡ slice_index words nth
 word_behind at header nth words =
     let back : at + nth - at ≡ nth = omega arith in
     ap (λ (b : Bool). if b then header else slice_index words (at + nth - at)) (le-ltb (at + nth) at (omega arith)) ∙ ap (λ n. slice_index words n) back
@@ -90,6 +91,7 @@ record_kind log call s fits h =
     record {
       offset = start_of log.len (record_words call) + n.nth;
       past = omega (arith, start-past log.len (record_words call));
+      begins = λ lt. absurd (omega (arith, lt));
       within = omega (arith, n.inside, length_spelled call, fits);
       at_is = n.at_is;
       word_is = n.word_is ∙ sym (word_behind (start_of log.len (record_words call)) (head_word (head.Pad (rest_of log.len))) n.nth (spelled call));
@@ -112,6 +114,7 @@ pad_kind log call s fits true e h =
     record {
       offset = log.len;
       past = omega arith;
+      begins = λ lt. refl;
       within = omega (arith, starts, fits);
       at_is = n.at_is ∙ ap (word_of log) (omega (arith, first));
       word_is = n.word_is ∙ ap (λ i. slice_index (spelling (entry.Pad (rest_of log.len))) i) first
@@ -130,7 +133,7 @@ directory_kind log s true (Some g) e h =
     ]
 
 -- a plan that needs no segment ends within the segments
-plan_within : (log : Log) (words : ℕ) → (plan_of log words).need_segment ≡ false → start_of log.len words + words ≤ 1024 * length (reach_of log)
+pub plan_within : (log : Log) (words : ℕ) → (plan_of log words).need_segment ≡ false → start_of log.len words + words ≤ 1024 * length (reach_of log)
 plan_within log words e = ltb-false (1024 * length (reach_of log)) (start_of log.len words + words) e
 
 pub staged_kinds : (log : Log) (call : Call) (s : Staged) → (plan_of log (record_words call)).need_segment ≡ false → Contains (staged_of log call) s → IsKind log call s

@@ -7,3 +7,4 @@ pub mod Found
 pub mod Calling
 pub mod Sound
 pub mod Opened
+pub mod Image

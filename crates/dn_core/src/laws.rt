@@ -19,13 +19,15 @@ ghost use Rattle.dn_lane.specs.State.{LaneState};
 ghost use Rattle.dn_lane.specs.Taken.{taken_of};
 ghost use Rattle.dn_lane.specs.declared.places.Work.{Work};
 ghost use Rattle.dn_core.specs.Calling.{IsCall};
+ghost use Rattle.dn_core.specs.Image.{log_words, IsExact, IsImage};
 ghost use Rattle.dn_core.specs.Opened.{IsOpened};
 ghost use Rattle.dn_core.specs.Sound.{IsSound, IsKept};
 
-/// A pool of zeros that was opened for a lane is sound, and no call was made.
+/// A pool of zeros that was opened for a lane is sound, and no call was made; and every word of it is known.
 pub fn opened()
-    ensures { (words now : List ℕ) (segments lane : ℕ) → IsZeros words → IsOpened words now segments lane → IsLane lane
+    ensures sound { (words now : List ℕ) (segments lane : ℕ) → IsZeros words → IsOpened words now segments lane → IsLane lane
         → segments ≤ 8192 → 98304 + 1024 * segments ≤ length now → IsSound now (fresh lane segments) [] }
+    ensures exact { (words now : List ℕ) (segments lane : ℕ) → IsZeros words → IsOpened words now segments lane → IsLane lane → IsExact now lane [] [] }
 {}
 
 /// A lane that begins a call stays sound, where the call is one that a record can have, its session's last position isn't past
@@ -44,10 +46,13 @@ pub fn steps()
         → IsKept k (gate words l.log.lane).stamp now (taken_of l word).lane receipts (taken_of l word).turn }
 {}
 
-/// The receipts of a sound state, in order of position, are a legal history, and the pool holds the map that it leaves.
+/// The receipts of a sound state, in order of position, are a legal history, and the pool holds the map that it leaves. Between
+/// calls every word of the pool is what they put there, or 0.
 pub fn holds()
     ensures legal { (words : List ℕ) (l : LaneState) (receipts history : List Made) → IsSound words l receipts
         → IsPermutation receipts history → IsInOrder history → IsLegal history }
     ensures map { (words : List ℕ) (l : LaneState) (receipts history : List Made) → IsSound words l receipts
         → IsPermutation receipts history → IsInOrder history → HoldsMap words (map_left history) }
+    ensures image { (words : List ℕ) (l : LaneState) (receipts : List Made) → IsSound words l receipts
+        → IsExact words l.log.lane receipts [] → IsImage words l.log.lane l.log.pool (gate words l.log.lane).stamp (log_words 0 receipts) }
 {}
