@@ -6,6 +6,7 @@ use Rattle.dn_model.specs.Regions.{gate_at}
 use Rattle.dn_lane.specs.Begun.{fresh}
 use Rattle.dn_lane.specs.State.{LaneState}
 use Rattle.dn_core.specs.Opened.{IsOpened}
+use Rattle.dn_core.proofs.Imaged.{opened_exact}
 use Rattle.dn_core.proofs.Opened.{opened_sound}
 use Rattle.dn_world.specs.State.{WorldState}
 use Rattle.dn_world.specs.World.{IsWorld}
@@ -30,6 +31,7 @@ opened_world words now segments l rs o few size lane none z =
     let zero_gate : word_at now (gate_at 1) ≡ 0 = o.others 65 (λ e. absurd (omega (arith, e))) (inl (omega arith)) ∙ z.each 65 in
     let first : IsWorld now (first_world (fresh 1 segments) []) [] = record {
       sound = opened_sound words now segments 1 z o (record { positive = omega arith; below = omega arith }) few long;
+      exact = opened_exact words now segments 1 z o (record { positive = omega arith; below = omega arith });
       idle = refl;
       number = refl;
       history = refl;

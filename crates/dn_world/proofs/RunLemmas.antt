@@ -3,17 +3,18 @@ use Rattle.std.proofs.lemmas.List.{append_assoc, append-nil, take_more, take_all
 use Rattle.std.specs.List.Sorted.{IsPermutation}
 use Rattle.dn_hist.specs.declared.calls.Call.{Call as CallOf}
 use Rattle.dn_hist.specs.declared.calls.Call.TheVariants.{Get, Put, Delete}
-use Rattle.dn_model.specs.OneLog.{IsOneLog}
 use Rattle.dn_model.specs.Regions.{gate, mark}
 use Rattle.dn_word.specs.declared.positions.Position.{Position}
 use Rattle.dn_script.specs.Fit.{IsAskable, IsLine}
 use Rattle.dn_script.specs.declared.scripts.Line.{Line}
 use Rattle.dn_script.specs.declared.scripts.Line.TheVariants.{Call}
 use Rattle.dn_core.specs.Calling.{IsCall}
-use Rattle.dn_core.specs.Standing.{OwnsSlots}
+use Rattle.dn_core.specs.Image.{log_words, IsExact, IsImage}
 use Rattle.dn_core.proofs.History.{sound_legal, sound_map}
+use Rattle.dn_core.proofs.Imaged.{imaged}
+use Rattle.dn_world.specs.Course.{first_of, last_position}
+use Rattle.dn_hist.specs.declared.receipts.Receipt.{Receipt}
 use Rattle.dn_world.specs.Ended.{Ended, receipts_of}
-use Rattle.dn_world.specs.FinalPool.{IsFinalPool}
 use Rattle.dn_world.specs.Output.{end_text, events_text, history_text}
 use Rattle.dn_world.specs.Playing.{IsPlaying, CallsLine}
 use Rattle.dn_world.specs.Rest.{PrintsRest, counts_text}
@@ -82,22 +83,14 @@ pub play_more : (lines : List Line) (i : ℕ) (line : Line) (words now : List �
 play_more lines i line words now w v out new lt at all few p calls = play_line lines i line words now w v out new lt at (line_fits lines i line lt at all) few p calls
 
 -- ---- what the calls left in the pool
-final_pool : (words : List ℕ) (w : WorldState) (ended : List Ended) → IsWorld words w ended → IsFinalPool w.lane.log.pool words (receipts_of ended)
+final_pool : (words : List ℕ) (w : WorldState) (ended : List Ended) → IsWorld words w ended
+    → IsImage words 1 w.lane.log.pool (last_position (first_of 1) (receipts_of ended)).stamp (log_words 0 (receipts_of ended))
 final_pool words w ended h =
-    let P : ℕ → Type 0 = λ n. OwnsSlots words n in
-    let Q : ℕ → Type 0 = λ n. IsOneLog words n h.sound.placed in
-    let lane : ℕ = w.lane.log.lane in
-    record {
-      format = h.sound.standing.format;
-      deeds = subst P h.number h.sound.standing.deeds;
-      placed = h.sound.placed;
-      one = subst Q h.number h.sound.standing.one;
-      wrote = h.sound.standing.wrote;
-      segments = record { log = w.lane.log; lane_is = h.number; pool_is = refl; len_is = h.sound.standing.length_is; space = h.sound.standing.space; directory = h.sound.standing.directory };
-      unfenced = ap (λ n. (gate words n).fenced) (sym h.number) ∙ h.sound.standing.gate_is.unfenced;
-      sealed = ap (λ n. (gate words n).len) (sym h.number) ∙ h.sound.standing.gate_is.sealed ∙ h.sound.standing.length_is;
-      stamp = h.stamp ∙ ap (λ (p : Position). p.stamp) h.last;
-    }
+    let rs : List Receipt = receipts_of ended in
+    let Exact : ℕ → Type 0 = λ n. IsExact words n rs [] in
+    let Image : ℕ → Type 0 = λ n. IsImage words n w.lane.log.pool (gate words n).stamp (log_words 0 rs) in
+    let At : ℕ → Type 0 = λ t. IsImage words 1 w.lane.log.pool t (log_words 0 rs) in
+    subst At (h.stamp ∙ ap (λ (p : Position). p.stamp) h.last) (subst Image h.number (imaged words w.lane rs h.sound (subst Exact (sym h.number) h.exact)))
 
 -- all lines were called, and the rest was printed
 pub play_ends : (lines : List Line) (i pool : ℕ) (words now : List ℕ) (w : WorldState) (out new : List ℕ) → length lines ≤ i → w.lane.log.pool ≡ pool → IsPlaying lines i words w out

@@ -4,15 +4,15 @@ use Rattle.dn_hist.specs.declared.calls.Call.{Call}
 use Rattle.dn_hist.specs.declared.receipts.Receipt.{Receipt}
 use Rattle.dn_core.specs.Placing.{position_of}
 use Rattle.dn_core.specs.Sound.{IsFull, IsWayOf}
-use Rattle.dn_core.specs.Written.{len_with, len_from}
+use Rattle.dn_core.specs.Written.{len_with, len_from, sealed_at}
 use Rattle.dn_world.specs.Ended.{End, Made, Full, Ended, with_receipt}
 
 -- How each call of a run ends, by the calls before it that were made, in a pool of so many segments.
 
--- A call was made: the log reaches past its record within the lane's 256 segments and the pool's, and a get was located by a
--- record exactly where one of its key was sealed. Or there was no room for its record.
+-- A call was made: the log reaches past its record within the lane's 256 segments and the pool's; a get was located by a record
+-- exactly where one of its key was sealed; and the receipt tells where its record stands. Or there was no room for its record.
 abbrev pub EndsBy : ℕ → List Receipt → Call → End → Type 0
-EndsBy pool before call (Made receipt way) = (len_with call (len_from 0 before) ≤ 1024 * min 256 pool) × IsWayOf call way before
+EndsBy pool before call (Made receipt way) = (len_with call (len_from 0 before) ≤ 1024 * min 256 pool) × IsWayOf call way before × (receipt.at ≡ sealed_at 1 (len_from 0 before) call)
 EndsBy pool before call (Full counter segments) = IsFull call pool (len_from 0 before) counter segments
 
 abbrev pub AreEnded : ℕ → List Receipt → List Ended → Type 0

@@ -1,7 +1,6 @@
 pub mod Course
 pub mod Ended
 pub mod Inside
-pub mod FinalPool
 pub mod Output
 pub mod Playing
 pub mod Rest

@@ -7,9 +7,9 @@ use Rattle.dn_hist.specs.declared.receipts.Receipt.{Receipt}
 use Rattle.dn_model.specs.PoolMap.{HoldsMap}
 use Rattle.dn_script.specs.declared.scripts.Line.{Line}
 use Rattle.dn_script.specs.declared.scripts.Line.TheVariants.{Call}
-use Rattle.dn_world.specs.Course.{AreEnded, ArePlaced, first_of}
+use Rattle.dn_core.specs.Image.{log_words, IsImage}
+use Rattle.dn_world.specs.Course.{AreEnded, ArePlaced, first_of, last_position}
 use Rattle.dn_world.specs.Ended.{Ended, receipts_of, HasItsReceipt}
-use Rattle.dn_world.specs.FinalPool.{IsFinalPool}
 use Rattle.dn_world.specs.Output.{output_of}
 
 -- These are the calls of the lines, in their order, and numbered from this number on.
@@ -36,5 +36,5 @@ pub record IsRun (pool : ℕ) (lines : List Line) (words output : List ℕ) : Ty
   pub rises : IsInCallersOrder (receipts_of ended)
   pub legal : IsLegal history
   pub holds : HoldsMap words (map_left history)
-  pub pool_is : IsFinalPool pool words (receipts_of ended)
+  pub pool_is : IsImage words 1 pool (last_position (first_of 1) (receipts_of ended)).stamp (log_words 0 (receipts_of ended))
   pub printed : output ≡ output_of ended history words

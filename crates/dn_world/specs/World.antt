@@ -9,6 +9,7 @@ use Rattle.dn_model.specs.Regions.{gate}
 use Rattle.dn_print.specs.CallLine.{made_text, event_text}
 use Rattle.dn_print.specs.declared.call_lines.EventLine.TheVariants as event
 use Rattle.dn_core.specs.Calling.{IsCall}
+use Rattle.dn_core.specs.Image.{IsExact}
 use Rattle.dn_core.specs.Sound.{IsSound}
 use Rattle.dn_world.specs.Course.{AreEnded, ArePlaced, first_of, last_position}
 use Rattle.dn_world.specs.Ended.{Ended, receipts_of, HasItsReceipt}
@@ -35,11 +36,12 @@ pub record IsTold (receipts : List Receipt) (number : ℕ) (last : Position) : T
   pub numbers : (r : Receipt) → Contains receipts r → r.number ≤ number
   pub upto : (r : Receipt) → Contains receipts r → (r.position ≡ last) ⊎ IsBefore r.position last
 
--- The pool and its lane are sound with the receipts of the calls that ended so, and no call is under way; the world's history,
+-- The pool and its lane are sound with the receipts of the calls that ended so, every word of the pool is known, and no call is under way; the world's history,
 -- counts and last position are theirs; each call ended, and stands, by those before it; and the gate has the stamp of the last
 -- position, which only the session's calls raise.
 pub record IsWorld (words : List ℕ) (w : WorldState) (ended : List Ended) : Type 0 where
   pub sound : IsSound words w.lane (receipts_of ended)
+  pub exact : IsExact words 1 (receipts_of ended) []
   pub idle : w.lane.work ≡ None
   pub number : w.lane.log.lane ≡ 1
   pub history : w.history ≡ receipts_of ended

@@ -15,5 +15,5 @@ returns-in-Ok-drive-clause-calls g c =
     on_ok_weaker c.answered-in-Ok-drive.result
     (λ kept. subst (λ (w : WorldState). Calls words w c.args.session c.args.call.now out now c.answered-in-Ok-drive.new.self new) c.self.view_is
     (called words now (state_of c.self.inside) c.answered-in-Ok-drive.new.self c.begin.new.self c.drive.new.lane c.count_call.new.self c.args.session c.args.call.now
-    c.in-Ok-drive.answer out new c.count_call.ensures c.in-Ok.ensures.ok c.in-Ok-drive.ensures.answer c.in-Ok-drive.ensures.number c.in-Ok-drive.ensures.pool kept))
+    c.in-Ok-drive.answer out new c.count_call.ensures c.in-Ok.ensures.ok c.in-Ok-drive.ensures.answer c.in-Ok-drive.ensures.number c.in-Ok-drive.ensures.pool c.in-Ok-drive.ensures.exact kept))
     c.answered-in-Ok-drive.ensures.ok
