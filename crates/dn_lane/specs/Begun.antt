@@ -31,7 +31,7 @@ abbrev pub refused_by : Option Work → Option ℕ → Option Refuse
 refused_by (Some k) barred = Some (Busy k.view.number)
 refused_by None barred = barred_by barred
 
--- why the lane begins no call: one is under way, or an earlier one read the bit of a fence
+-- why the lane begins no call: one is under way, or an earlier one read the bit of a fence, or another gate than it had loaded
 abbrev pub refusal_of : LaneState → Option Refuse
 refusal_of l = refused_by l.work l.barred
 

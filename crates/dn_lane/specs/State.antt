@@ -17,5 +17,5 @@ pub record LaneState : Type 0 where
   pub fetch : Fetching
   -- the call under way
   pub work : Option Work
-  -- the gate word with the bit of a fence that it has read
+  -- the gate word that it has read with the bit of a fence, or in place of the gate that it had loaded
   pub barred : Option ℕ

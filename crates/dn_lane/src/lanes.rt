@@ -97,8 +97,8 @@ impl Lane {
     /// Begins a call, and takes all memory that it will need: for a copy of the call, for a value that it finds, and for
     /// the place of a record that it seals. The call's session shows itself by `session`.
     ///
-    /// `Busy` comes exactly where a call is under way, `Fenced` where none is and an earlier one read the bit of a fence,
-    /// and `OutOfMemory` where neither is so. After each of them nothing is changed.
+    /// `Busy` comes exactly where a call is under way, `Fenced` where none is and an earlier one read the bit of a fence, or
+    /// another gate than it had loaded, and `OutOfMemory` where neither is so. After each of them nothing is changed.
     ///
     /// After `Ok` the lane runs the program of the call to its end, whatever words its actions find.
     pub fn begin(&mut self, session: &SessionView, call: &Call) -> Result<(), Refuse>

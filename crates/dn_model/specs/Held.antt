@@ -67,7 +67,8 @@ abbrev pub authority_by : (ℕ → List Placed) → ℕ → Option Record → Op
 authority_by logs k None place = indexed logs k place
 authority_by logs k (Some r) place = Says (Some r)
 
--- The authority of a key: the last unmerged authority record in the log of the lane that its slot's deed names, or else the index's.
+-- The authority of a key: the last unmerged authority record of the owner's log, or else the index's. The owner is the lane that
+-- the deed of the key's slot names.
 abbrev pub authority : List ℕ → (ℕ → List Placed) → (ℕ → List ℕ) → ℕ → Found (Option Record)
 authority words logs chains k =
     authority_by logs k (unmerged k (mark words (owner words k)) (logs (owner words k))) (index words (chains (home_of k)) k)

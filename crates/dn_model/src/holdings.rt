@@ -143,7 +143,7 @@ fn held_by<'a>(words: &[u64], logs: &'a [List<Placed>], key: u64, entry: &'a Rec
     }
 }
 
-/// The last unmerged authority record of the key in the log of the lane that its slot's deed names.
+/// The last unmerged authority record of the key in its owner's log: that of the lane that the deed of its slot names.
 fn pending<'a>(words: &[u64], logs: &'a [List<Placed>], key: u64) -> Option<&'a Record>
     ensures { option_copied result ≡ unmerged key (mark words.now (owner words.now key)) (logs_of logs.now (owner words.now key)) }
 {

@@ -3,7 +3,7 @@ use Rattle.dn_record.specs.Record.{spelling}
 use Rattle.dn_record.specs.Grammar.{IsRecord, FrontSpells}
 use Rattle.dn_record.specs.declared.records.Record.{Record}
 
--- a front of a list of words spells at most one record
+-- two records that fronts of the same words spell are one
 abbrev pub FrontSpellsOne : Type 0
 FrontSpellsOne = (words : List ℕ) (a b : Record) → FrontSpells words a → FrontSpells words b → a ≡ b
 

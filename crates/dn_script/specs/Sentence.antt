@@ -40,7 +40,7 @@ abbrev pub call_of : List (List ℕ) → Option CallOf
 call_of [] = None
 call_of (session ∷ rest) = if pointwise nat_eq session (codes "c1") then verb_of rest else None
 
--- a line of at most 4,096 bytes, each from 32 to 126
+-- a line that isn't too long and has printable bytes alone: at most 4,096 of them, from 32 to 126
 abbrev pub is_plain : List ℕ → Bool
 is_plain line = nat_le (length line) 4096 && list_all (is_within 32 126) line
 

@@ -1,8 +1,8 @@
 //! The script: lines of bytes, and the calls that they ask for.
 //!
-//! Each line ends with a newline and has at most 4,096 bytes, each from 32 to 126. Lines without a byte and those with a `;`
-//! in front ask for nothing. The other lines are `c1 get K` and `c1 put K =V`, where K is a key from 1 to 2^64 - 1 in decimal
-//! without sign or leading zeros, and V a value of 0 to 1,024 bytes from `!` to `~`.
+//! Each line ends with a newline. It has printable bytes alone, from 32 to 126, and no more than 4,096 of them. Lines without a
+//! byte and those with a `;` in front ask for nothing. The other lines are `c1 get K` and `c1 put K =V`, where the key K is a
+//! number from 1 to 2^64 - 1 in decimal without sign or leading zeros, and V a value of 0 to 1,024 bytes from `!` to `~`.
 #![tactic(auto)]
 
 mod faults;

@@ -176,7 +176,7 @@ impl Lane {
         Turn::Done(answer)
     }
 
-    /// The call ends, since the gate has the bit of a fence, and so does every later one.
+    /// The call ends, since the gate has the bit of a fence or is another one than was loaded, and so does every later call.
     pub(super) fn bar(&mut self, word: u64) -> Turn
         requires { self.old.staged ≡ [] }
         ensures turn { result ≡ Turn.Done (Answer.Fenced word) }
