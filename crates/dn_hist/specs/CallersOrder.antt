@@ -12,14 +12,3 @@ IsBefore a b = position_cmp a b ≡ Less
 pub record IsInCallersOrder (receipts : List Receipt) : Type 0 where
   pub rises : (i j : ℕ) (r s : Receipt) → i < j → slice_get receipts i ≡ Some r → slice_get receipts j ≡ Some s
       → r.position.session ≡ s.position.session → (r.number < s.number) × IsBefore r.position s.position
-
--- A session was told a position when its last call had this number.
-pub record Told : Type 0 where
-  pub session : ℕ
-  pub number : ℕ
-  pub position : Position
-
--- Each call that the session numbered since then has a position behind the one it was told.
-abbrev pub IsAfter : Told → List Receipt → Type 0
-IsAfter told receipts = (i : ℕ) (r : Receipt) → slice_get receipts i ≡ Some r → r.position.session ≡ told.session
-    → told.number < r.number → IsBefore told.position r.position

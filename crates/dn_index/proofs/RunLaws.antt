@@ -41,9 +41,6 @@ find_alone words k place g =
 start : (words : List ℕ) (k : ℕ) (old new : Option ℕ) → Gives words k old → IsBetween words words k old new
 start words k old new g = record { others = λ q place pos d h. h; own = inl g }
 
-met_stands : (words : List ℕ) (k : ℕ) (place : Option ℕ) (g : Gives words k place) (b : ℕ) → IsIn b (home_of k ∷ g.chain) → Stands words b (home_of k)
-met_stands words k place g b m = stands_in words b k place g m
-
 -- ---- remove
 clear_alone : (words : List ℕ) (k : ℕ) (place : Option ℕ) (g : Gives words k place) (r : Reached) → 0 < k → IsIndexed words k → Tells words k (home_of k ∷ g.chain) r
     → Alone (λ now. IsBetween words now k place None) (RemoveEnds k) (clear r) words

@@ -140,9 +140,6 @@ leaves_past rs k t u v top le (inr h) = inr (record {
 not_write : (c : Call) (key : ℕ) → c ≡ Get key → is_write c ≡ true → ⊥
 not_write c key e w = false≢true (sym (ap is_write e) ∙ w)
 
-same_key : (r : Receipt) (k t : ℕ) (key : ℕ) → Writes r k t → key_of r.call ≡ key → key ≡ k
-same_key r k t key w e = sym e ∙ w.key
-
 pub map_write : (pre : List Receipt) (d : Receipt) (m : Bytes) (key q T : ℕ) (new : Option (List ℕ)) (n : Bytes) → (is_write d.call ≡ true) → (key_of d.call ≡ key) → d.position.stamp ≤ T → new ≡ written_by d.call
     → ((r : Receipt) → Contains pre r → Precedes r.position d.position)
     → ((q ≡ key) → get n q ≡ new) → ((q ≡ key → ⊥) → get n q ≡ get m q)

@@ -18,15 +18,12 @@ mark_at n = 128 + n
 abbrev pub directory_at : ℕ → ℕ → ℕ
 directory_at n q = 1024 + (n * 256 + q)
 
--- where the deed of a slot stands, a cell and the key of a cell
+-- where the deed of a slot stands, and a cell
 abbrev pub deed_at : ℕ → ℕ
 deed_at s = 192 + s
 
 abbrev pub cell_at : ℕ → ℕ
 cell_at j = 256 + j
-
-abbrev pub cell_key_at : ℕ → ℕ
-cell_key_at j = 512 + j
 
 -- where word i of bucket b stands: 1 to 3 are keys, 4 to 6 their places, 7 the next bucket
 abbrev pub bucket_at : ℕ → ℕ → ℕ
@@ -56,12 +53,9 @@ offsets words n o = word_at words (place words n o)
 abbrev pub deed : List ℕ → ℕ → Deed
 deed words s = deed_of (word_at words (deed_at s))
 
--- the words of cell j
+-- the word of cell j
 abbrev pub cell : List ℕ → ℕ → ℕ
 cell words j = word_at words (cell_at j)
-
-abbrev pub cell_key : List ℕ → ℕ → ℕ
-cell_key words j = word_at words (cell_key_at j)
 
 -- word i of bucket b
 abbrev pub bucket : List ℕ → ℕ → ℕ → ℕ

@@ -46,11 +46,6 @@ pub record IsRecord (r : Record) : Type 0 where
   pub fields_fit : FieldsFit r
   pub value_fits : ValueFits r
 
--- these words spell this record
-pub record Spells (words : List ℕ) (r : Record) : Type 0 where
-  pub is_record : IsRecord r
-  pub is_spelling : words ≡ spelling r
-
 -- a front of these words spells this record
 pub record FrontSpells (words : List ℕ) (r : Record) : Type 0 where
   pub is_record : IsRecord r
