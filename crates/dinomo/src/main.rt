@@ -9,11 +9,9 @@ mod tests;
 use crate::command::run;
 use dn_act::Sound;
 use dn_io::{Status, StdIn, StdOut};
+use dn_word::regions::POOL_SEGMENTS;
 use std::env;
 use std::process::ExitCode;
-
-/// The number of segments of the pool that the program makes.
-const POOL_SEGMENTS: u32 = 8192;
 
 /// The words of the command line, without the program's name. Where one is no text there are none, which is no command.
 fn words(rt: &HostRuntime) -> Result<Vec<String>, Status> {
@@ -29,7 +27,7 @@ fn words(rt: &HostRuntime) -> Result<Vec<String>, Status> {
     Ok(words)
 }
 
-/// Runs over the standard streams and a pool of its own.
+/// Runs over the standard streams and a pool of its own, which has as many segments as a pool may have.
 fn run_here(rt: &HostRuntime) -> Status {
     let words = match words(rt) {
         Ok(words) => words,

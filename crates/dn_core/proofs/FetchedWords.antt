@@ -8,10 +8,10 @@ use Rattle.dn_record.specs.Values.{words_for, value_words}
 use Rattle.dn_record.specs.Head.{header_for, head_word}
 use Rattle.dn_record.specs.Grammar.{IsValue}
 use Rattle.dn_record.specs.Reading.{head_in}
-use Rattle.dn_record.specs.Record.{head_of, spelling, words_of_lem}
+use Rattle.dn_record.specs.Record.{head_of, spelling}
 use Rattle.dn_record.specs.declared.heads.Head.TheVariants.{Put as PutHead}
 use Rattle.dn_record.specs.declared.records.Record.{Record}
-use Rattle.dn_record.specs.declared.records.Record.TheVariants.{Put, Delete, Share, Unshare, Loose, LooseDelete, Pad}
+use Rattle.dn_record.specs.declared.records.Record.TheVariants.{Put}
 use Rattle.dn_record.proofs.HeadLemmas.{header_kept, head_spelled}
 use Rattle.dn_record.proofs.SpelledLemmas.{is_head}
 use Rattle.dn_record.proofs.ValueLemmas.{length_words_from, value_again}
@@ -19,7 +19,8 @@ use Rattle.dn_hist.specs.declared.receipts.Receipt.{Receipt}
 use Rattle.dn_log.specs.Log.{Log, reach_of}
 use Rattle.dn_model.specs.declared.logs.Placed.{Placed}
 use Rattle.dn_model.specs.Regions.{directory, place}
-use Rattle.dn_model.specs.Log.{Stand, Fits, SpellsAt}
+use Rattle.dn_model.specs.Log.{Stand, SpellsAt}
+pub use Rattle.dn_model.proofs.PieceLaws.{fits_within}
 use Rattle.dn_lane.specs.Taken.{value_in}
 use Rattle.dn_lane.specs.declared.logged.Sealed.{Sealed}
 use Rattle.dn_core.specs.Standing.{IsStanding}
@@ -39,17 +40,7 @@ named words log sealed placed rs offset s lt =
     let g : get_or (reach_of log) (offset / 1024) 0 < log.pool = s.space.fit.each (offset / 1024) 0 m.0 in
     record { some = c.1; within = omega (arith, m.1, g) }
 
--- a record lies within one segment
-pub fits_within : (offset : ℕ) (r : Record) → Fits offset r → offset % 1024 + words_of_lem r ≤ 1024
-fits_within offset (Put key value) h = h
-fits_within offset (Delete key) h = h
-fits_within offset (Share key cell opening) h = h
-fits_within offset (Unshare key at) h = h
-fits_within offset (Loose key value) h = h
-fits_within offset (LooseDelete key) h = h
-fits_within offset (Pad words) h = omega arith
-
--- so its words stand in a row
+-- the words of a record, which lies within one segment, stand in a row
 pub in_row : (words : List ℕ) (lane offset i n : ℕ) → offset % 1024 + n ≤ 1024 → i < n → place words lane (offset + i) ≡ place words lane offset + i
 in_row words lane offset i n fits lt =
     let q : (offset + i) / 1024 ≡ offset / 1024 = omega arith in

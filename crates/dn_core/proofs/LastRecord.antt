@@ -1,10 +1,9 @@
-use Rattle.std.proofs.Common.{ℕ, ◌+◌, ◌≤◌, ◌≡◌, ◌==◌, ◌&&◌, Bool, true, false, cond, List, [], ◌∷◌, ◌++◌, All, Option, Some, None, nat_eq, nat_le, refl, sym, ap, subst, arith}
+use Rattle.std.proofs.Common.{ℕ, ◌+◌, ◌≤◌, ◌≡◌, ◌==◌, Bool, true, false, cond, List, [], ◌∷◌, ◌++◌, All, Option, Some, None, nat_eq, refl, sym, ap, subst, arith}
 use Rattle.std.specs.Prelude.{find}
 use Rattle.std.specs.List.{last_or}
 use Rattle.std.specs.Option.{option_map}
 use mathlib.Core.List.{reverse_aux}
 use Rattle.std.proofs.lemmas.Bool.{false≢true}
-use Rattle.std.proofs.lemmas.Bool.Decides.{nat_tests}
 use Rattle.std.proofs.lemmas.List.Elements.{All-head, All-tail}
 use Rattle.dn_record.specs.Record.{words_of_lem}
 use Rattle.dn_record.specs.declared.records.Record.{Record}
@@ -15,6 +14,7 @@ use Rattle.dn_model.specs.Regions.{offsets}
 use Rattle.dn_model.specs.Log.{SpellsAt, Tiles}
 use Rattle.dn_model.specs.Held.{is_authority, authorities, entry_of, unmerged}
 use Rattle.dn_model.specs.OneLog.{is_plain, IsOneLog}
+pub use Rattle.dn_model.proofs.HeldLaws.{from_start}
 use Rattle.dn_model.proofs.LogLaws.{tiles_le}
 use Rattle.dn_lane.specs.Sealed.{last_of}
 use Rattle.dn_lane.specs.declared.logged.Sealed.{Sealed}
@@ -76,10 +76,6 @@ by_entry w key end offset (LooseDelete its) ps done old rest plain s le told = a
 by_entry w key end offset (Pad words) ps done old rest plain s le told = rest done old told
 
 -- ---- all of them
--- every offset is past the merged mark of a log that nothing has merged
-pub from_start : (offset : ℕ) (b : Bool) → (nat_le 0 offset && b) ≡ b
-from_start offset b = grind (arith, nat_tests)
-
 told_along : (w : ℕ → ℕ) (key end o : ℕ) (ps : List Placed) → Tiles w o ps end → All (λ (p : Placed). is_plain p.entry ≡ true) ps → Goes w key end ps
 told_along w key end o [] tiles plain done old told = told
 told_along w key end o (p ∷ ps) tiles plain done old told =

@@ -5,10 +5,7 @@ ghost use Rattle.dn_core.specs.Opened.{IsOpened, IsGranted};
 
 use dn_act::{Action, Failed, Memory, exec};
 use dn_word::regions::{FORMAT_AT, SLOTS, deed_at};
-use dn_word::{Deed, DeedState, Format};
-
-/// The number of the layout of words that this store writes.
-const LAYOUT: u32 = 1;
+use dn_word::{Deed, DeedState, FORMAT_NUMBER, Format};
 
 /// Grants a slot to its first owner: its deed is loaded and exchanged.
 fn grant<M: Memory>(mem: &mut M, slot: u8, lane: u8) -> Result<(), Failed>
@@ -54,7 +51,7 @@ pub fn open<M: Memory>(mem: &mut M, segments: u32, lane: u8) -> Result<(), Faile
 {
     let word = Format {
         segments,
-        number: LAYOUT,
+        number: FORMAT_NUMBER,
     }
     .word();
     exec(

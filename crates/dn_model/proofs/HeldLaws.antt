@@ -47,12 +47,13 @@ pub unmerged_more : (k merged : ℕ) (log : List Placed) (i : ℕ) (p : Placed) 
 unmerged_more k merged log i p lt e =
     ap (λ xs. unmerged k merged xs) (take_more log i p lt ∙ ap (λ x. take i log ++ x ∷ []) (sym e)) ∙ unmerged_push k merged (take i log) p
 
-from_zero : (o : ℕ) (b : Bool) → (nat_le 0 o && b) ≡ b
-from_zero o b = grind (arith, nat_tests)
+-- every offset is past the merged mark of a log that nothing has merged
+pub from_start : (offset : ℕ) (b : Bool) → (nat_le 0 offset && b) ≡ b
+from_start offset b = grind (arith, nat_tests)
 
 pub left_push : (k : ℕ) (log : List Placed) (p : Placed) → left_in k (log ++ p ∷ []) ≡ (if is_authority k p.entry then value_of p.entry else left_in k log)
 left_push k log p =
-    ap (λ r. option_and_then value_of r) (unmerged_push k 0 log p ∙ ap (λ b. if b then Some p.entry else unmerged k 0 log) (from_zero p.offset (is_authority k p.entry)))
+    ap (λ r. option_and_then value_of r) (unmerged_push k 0 log p ∙ ap (λ b. if b then Some p.entry else unmerged k 0 log) (from_start p.offset (is_authority k p.entry)))
     ∙ left_by k p.entry (is_authority k p.entry) (unmerged k 0 log)
 
 -- ---- what is found in a log is one of its records
