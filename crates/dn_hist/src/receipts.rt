@@ -29,7 +29,9 @@ pub struct Receipt {
     pub position: Position,
     /// The call's number in its session, from 1.
     pub number: u32,
+    /// What was asked.
     pub call: Call,
+    /// What was answered.
     pub reply: Reply,
     /// Where the record lies that a put or delete sealed; none for a get.
     pub at: Option<Ref>,

@@ -11,19 +11,23 @@ pub enum Errand {
     Remove,
 }
 
-/// A place of a bucket: the bucket, below 8,192, and the number of the key word, from 1 to 3. The place word stands three
-/// words behind that.
+/// A place of a bucket: a key word, and the place word three words behind it.
 #[derive(Clone, Copy)]
 pub struct Spot {
+    /// The bucket, below 8,192.
     pub bucket: u16,
+    /// The number of the key word in the bucket, from 1 to 3.
     pub number: u8,
 }
 
-/// What a walk knows of the chain: the bucket that it is in, how many more it may enter, and the first free place so far.
+/// What a walk knows of the chain.
 #[derive(Clone, Copy)]
 pub struct Trail {
+    /// The bucket that it is in.
     pub bucket: u16,
+    /// How many more buckets it may enter.
     pub left: u16,
+    /// The first free place so far.
     pub free: Option<Spot>,
 }
 
@@ -85,7 +89,7 @@ pub enum WalkTurn {
     Absent,
     /// The key is set or removed.
     Written,
-    /// A bucket is needed, and the overflow counter that was read is at least 4,096.
+    /// A bucket is needed, and `counter`, which the walk read off the overflow counter, is at least 4,096.
     IndexFull { counter: u64 },
 }
 

@@ -43,7 +43,7 @@ pub enum Refuse {
     /// A call is under way, which has this number.
     #[error("call {number} is under way")]
     Busy { number: u32 },
-    /// An earlier call of this lane read this gate word: it has the bit of a fence, or is another gate than the call had loaded.
+    /// An earlier call of this lane read this gate word: it has the bit of a fence, or is another gate than was loaded.
     #[error("the gate word {word:016x} is fenced")]
     Fenced { word: u64 },
     /// Want of memory.

@@ -4,6 +4,7 @@ ghost use Rattle.dn_lane.specs.Sealed.{last_of};
 /// A sealed record that isn't merged: its key, and its offset in the lane's log.
 #[derive(Clone, Copy, Debug, PartialEq, Eq)]
 pub struct Sealed {
+    /// The key of the put or delete.
     pub key: u64,
     /// Where it begins in the lane's log, in words.
     pub offset: u32,

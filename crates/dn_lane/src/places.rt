@@ -6,6 +6,7 @@ use dn_word::{Position, ValueRoom};
 /// What a call knows of its key's location: where it came from, and whether the call's room has the key's value.
 #[derive(Clone, Copy, Debug, PartialEq, Eq)]
 pub struct Located {
+    /// Where the location came from.
     pub way: Way,
     /// Whether the room has the value.
     pub held: bool,

@@ -18,6 +18,7 @@ use std::alloc::Global;
 pub struct Placed {
     /// Where it begins in the log, in words.
     pub offset: u32,
+    /// The record.
     pub entry: Record,
 }
 

@@ -3,5 +3,6 @@
 pub enum Stop {
     /// An access of the pool failed.
     Fault,
+    /// Want of memory.
     OutOfMemory,
 }

@@ -16,7 +16,7 @@ pub struct Format {
 impl Format {
     /// The format that a word holds: 32 bits of the segments above 32 of the layout's number.
     pub fn read(word: u64) -> Format
-        ensures { result ≡ format_of word }
+        ensures value { result ≡ format_of word }
     {
         Format {
             segments: (word >> 32) as u32,
