@@ -1,4 +1,4 @@
-use Rattle.std.specs.Prelude.{◌≡◌, ◌+◌, ◌*◌, ◌^◌, ◌<◌, List, [], length, All, Option, Some, None, false, true}
+use Rattle.std.specs.Prelude.{◌≡◌, ◌+◌, ◌*◌, ◌^◌, ◌<◌, ℕ, List, [], length, All, Option, Some, None, false, true}
 use Rattle.dn_log.specs.Log.{Log, plan_of}
 use Rattle.dn_log.specs.declared.claims.Claim.{Claim}
 use Rattle.dn_log.specs.declared.claims.Claim.TheVariants.{Reading, Taking}
@@ -26,6 +26,10 @@ WaitsAt staged (at.Seal located gate to) = Unit {0}
 abbrev pub ClaimsFor : Log → Claim → Type 0
 ClaimsFor log (Reading pool segments) = (pool ≡ log.pool) × (length log.segments < 256) × (log.spare ≡ None) × (segments ≡ length log.segments)
 ClaimsFor log (Taking pool segments) = (pool ≡ log.pool) × (length log.segments < 256) × (log.spare ≡ None) × (segments ≡ length log.segments)
+
+-- a segment of the pool, for a log that has no spare one and room for it
+abbrev pub IsSpareFor : Log → ℕ → Type 0
+IsSpareFor log segment = (log.spare ≡ None) × (length log.segments < 256) × (segment < log.pool)
 
 -- what the numbers of a place are within
 abbrev pub FitsAt : LaneState → Work → Place → Type 0

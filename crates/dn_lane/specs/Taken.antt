@@ -156,6 +156,11 @@ abbrev pub quietly : LaneState → Work → Located → ℕ → Option Position 
 quietly l k located gate (Some to) raised = ends l (made k to (found k located) None located.way)
 quietly l k located gate None raised = raising l k located gate raised
 
+-- the lane whose log has the segment that a call claimed, if it claimed one, as its spare
+abbrev pub with_spare : LaneState → Option ℕ → LaneState
+with_spare l None = l
+with_spare l (Some segment) = record l { log = record l.log { spare = Some segment } }
+
 -- the record's words are staged
 abbrev pub stages : LaneState → Work → Located → ℕ → Position → Taken
 stages l k located gate to = record {
@@ -192,7 +197,7 @@ raised l k located gate to word = if word == gate then ends l (made k to (found 
 
 abbrev pub claimed_by : LaneState → Work → Located → ℕ → Position → Claim → ClaimTurn → Taken
 claimed_by l k located gate to claim claimed.More = goes l k (at.Claim located gate to claim)
-claimed_by l k located gate to claim (claimed.Got segment) = stages (record l { log = record l.log { spare = Some segment } }) k located gate to
+claimed_by l k located gate to claim (claimed.Got segment) = stages (with_spare l (Some segment)) k located gate to
 claimed_by l k located gate to claim (claimed.Full counter segments) = ends l (Full counter segments)
 
 abbrev pub done_of : Call → Reply

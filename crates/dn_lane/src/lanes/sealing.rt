@@ -1,12 +1,12 @@
 //! The record of a put or delete: room for it, the words that wait to flow, and the exchange of the gate that seals it.
 
-ghost use Rattle.std.specs.Prelude.{◌≡◌, ◌<◌, ◌≤◌, ◌^◌, ◌+◌, [], None, Some, false, length, IsSome};
+ghost use Rattle.std.specs.Prelude.{◌≡◌, ◌<◌, ◌≤◌, ◌^◌, ◌+◌, [], None, Some, false, length, IsSome, IfSome};
 ghost use Rattle.dn_log.specs.Log.{plan_of};
 ghost use Rattle.dn_log.specs.Claim.{turn_of as claim_turn, claim_after};
 ghost use Rattle.dn_lane.specs.Spelled.{record_words, IsWrite};
 ghost use Rattle.dn_lane.specs.Same.{SameLane};
-ghost use Rattle.dn_lane.specs.Taken.{made, rooms, stages, claimed_by, sealed, done_of};
-ghost use Rattle.dn_lane.specs.Fit.{ClaimsFor};
+ghost use Rattle.dn_lane.specs.Taken.{made, rooms, stages, with_spare, claimed_by, sealed, done_of};
+ghost use Rattle.dn_lane.specs.Fit.{ClaimsFor, IsSpareFor};
 ghost use Rattle.dn_lane.specs.Left.{actions_left};
 ghost use Rattle.dn_lane.specs.Stamps.{MadeFits, AnswerFits};
 
@@ -71,7 +71,7 @@ impl Lane {
             unreachable!()
         };
         if !self.log.plan(record_words(&work.call)).need_segment {
-            return self.stage(located, gate, to);
+            return self.stage(None, located, gate, to);
         }
         if self.log.segments() == LANE_SEGMENTS {
             return self.end(Answer::Full {
@@ -88,15 +88,17 @@ impl Lane {
         })
     }
 
-    /// Stages the record of a put or delete, which goes on at its seal.
-    fn stage(&mut self, located: Located, gate: u64, to: Position) -> Turn
+    /// Stages the record of a put or delete, which goes on at its seal. A segment that the call claimed is first made the log's
+    /// spare one.
+    fn stage(&mut self, claimed: Option<u32>, located: Located, gate: u64, to: Position) -> Turn
         requires write { (k : Work) → self.old.work ≡ Some k → IsWrite k.call }
-        requires reach { (k : Work) → self.old.work ≡ Some k → (plan_of self.old.log (record_words k.call)).need_segment ≡ false }
+        requires reach { (k : Work) → self.old.work ≡ Some k → claimed ≡ None → (plan_of self.old.log (record_words k.call)).need_segment ≡ false }
+        requires claimed { IfSome claimed (λ segment. IsSpareFor self.old.log segment) }
         requires some { IsSome self.old.work }
         requires waits { self.old.staged ≡ [] }
         requires stamp { to.stamp < 2 ^ 31 }
         ensures turn { result ≡ Turn.More }
-        ensures lane { (k : Work) → self.old.work ≡ Some k → self.new ≡ (stages self.old k located gate to).lane }
+        ensures lane { (k : Work) → self.old.work ≡ Some k → self.new ≡ (stages (with_spare self.old claimed) k located gate to).lane }
         ensures same { SameLane self.old self.new }
         ensures works { result ≡ Turn.More → IsSome self.new.work }
         ensures ended { (answer : Answer) → result ≡ Turn.Done answer → self.new.work ≡ None }
@@ -105,32 +107,9 @@ impl Lane {
         let Some(mut work) = self.work.take() else {
             unreachable!()
         };
-        stage(&self.log, &mut self.staging, &work.call);
-        work.place = Place::Seal { located, gate, to };
-        self.work = Some(work);
-        Turn::More
-    }
-
-    /// The claimed segment makes room for the record of a put or delete.
-    fn take_segment(&mut self, segment: u32, located: Located, gate: u64, to: Position) -> Turn
-        requires write { (k : Work) → self.old.work ≡ Some k → IsWrite k.call }
-        requires none { self.old.log.spare ≡ None }
-        requires count { length self.old.log.segments < 256 }
-        requires segment { segment < self.old.log.pool }
-        requires some { IsSome self.old.work }
-        requires waits { self.old.staged ≡ [] }
-        requires stamp { to.stamp < 2 ^ 31 }
-        ensures turn { result ≡ Turn.More }
-        ensures lane { (k : Work) → self.old.work ≡ Some k → self.new ≡ (stages (record self.old { log = record self.old.log { spare = Some segment } }) k located gate to).lane }
-        ensures same { SameLane self.old self.new }
-        ensures works { result ≡ Turn.More → IsSome self.new.work }
-        ensures ended { (answer : Answer) → result ≡ Turn.Done answer → self.new.work ≡ None }
-        ensures left { (k : Work) → self.old.work ≡ Some k → actions_left self.new ≤ 3 + record_words k.call }
-    {
-        let Some(mut work) = self.work.take() else {
-            unreachable!()
-        };
-        self.log.keep(segment);
+        if let Some(segment) = claimed {
+            self.log.keep(segment);
+        }
         stage(&self.log, &mut self.staging, &work.call);
         work.place = Place::Seal { located, gate, to };
         self.work = Some(work);
@@ -168,7 +147,7 @@ impl Lane {
                 to,
                 claim,
             }),
-            ClaimTurn::Got { segment } => self.take_segment(segment, located, gate, to),
+            ClaimTurn::Got { segment } => self.stage(Some(segment), located, gate, to),
             ClaimTurn::Full { counter, segments } => self.end(Answer::Full { counter, segments }),
         }
     }
