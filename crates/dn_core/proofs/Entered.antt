@@ -5,7 +5,7 @@ use Rattle.dn_hist.specs.declared.calls.Call.{Call}
 use Rattle.dn_hist.specs.declared.calls.Call.TheVariants.{Get, Put, Delete}
 use Rattle.dn_hist.specs.declared.receipts.Receipt.{Receipt}
 use Rattle.dn_record.specs.Grammar.{IsRecord}
-use Rattle.dn_record.specs.Record.{spelling, words_of_lem, value_of}
+use Rattle.dn_record.specs.Record.{spelling, length_in_words, value_of}
 use Rattle.dn_record.specs.declared.records.Record.{Record}
 use Rattle.dn_record.specs.declared.records.Record.TheVariants as entry
 use Rattle.dn_log.specs.Log.{Log, plan_of}
@@ -40,7 +40,7 @@ is_spelled (Get key) w = absurd w
 is_spelled (Put key value) w = refl
 is_spelled (Delete key) w = refl
 
-pub record_length : (call : Call) → words_of_lem (record_of call) ≡ record_words call
+pub record_length : (call : Call) → length_in_words (record_of call) ≡ record_words call
 record_length (Get key) = refl
 record_length (Put key value) = refl
 record_length (Delete key) = refl

@@ -15,7 +15,7 @@ use Rattle.dn_locate.specs.declared.fetches.FetchPlace.TheVariants.{Idle, Conten
 use Rattle.dn_locate.specs.declared.fetches.FetchTurn.TheVariants as fetched
 use Rattle.dn_locate.specs.declared.fetches.Wish.{Wish}
 use Rattle.dn_record.specs.Grammar.{IsRecord}
-use Rattle.dn_record.specs.Record.{spelling, words_of_lem, value_of}
+use Rattle.dn_record.specs.Record.{spelling, length_in_words, value_of}
 use Rattle.dn_record.specs.declared.records.Record.{Record}
 use Rattle.dn_record.specs.declared.records.Record.TheVariants as entry
 use Rattle.dn_record.proofs.SpelledLemmas.{length-spelling}
@@ -36,8 +36,8 @@ use Rattle.dn_core.proofs.FetchSteps.{fetch_at, fetching, more_kept, ended_kept,
 
 -- ---- what the word is
 -- the number of words of a put's spelling is that of its record
-put_length : (r : Record) (its : ℕ) (value : List ℕ) → r ≡ entry.Put its value → length (spelling r) ≡ words_of_lem r
-put_length r its value e = ap (λ x. length (spelling x)) e ∙ length-spelling (entry.Put its value) ∙ sym (ap words_of_lem e)
+put_length : (r : Record) (its : ℕ) (value : List ℕ) → r ≡ entry.Put its value → length (spelling r) ≡ length_in_words r
+put_length r its value e = ap (λ x. length (spelling x)) e ∙ length-spelling (entry.Put its value) ∙ sym (ap length_in_words e)
 
 -- number 1 is the key
 put_key : (r : Record) (its : ℕ) (value : List ℕ) (i word key : ℕ) → r ≡ entry.Put its value → is_authority key r ≡ true → word ≡ get_or (spelling r) i 0 → i ≡ 1 → word ≡ key
@@ -86,8 +86,8 @@ whole_kept : (words : List ℕ) (log : Log) (sealed : List Sealed) (key : ℕ) (
 whole_kept words log sealed key wish at from count ws follows call view room placed rs floor word s t z h e last =
     let l : IsLoaded words log (fetch_at key wish at (Content from count) ws follows) h.of from count = h.loaded in
     let all : List ℕ = spelling h.of.entry in
-    let long : length all ≡ words_of_lem h.of.entry = put_length h.of.entry l.put.0 l.put.1 l.put.2 in
-    let count_is : count ≡ words_of_lem h.of.entry = l.whole in
+    let long : length all ≡ length_in_words h.of.entry = put_length h.of.entry l.put.0 l.put.1 l.put.2 in
+    let count_is : count ≡ length_in_words h.of.entry = l.whole in
     let lt : length ws < length all = omega arith in
     let there : ws ++ word ∷ [] ≡ all = one_more ws all word l.so_far lt e ∙ take_all (length ws + 1) all (omega arith) in
     let v : value_in (ws ++ word ∷ []) ≡ value_of h.of.entry = put_value h.of.entry l.put.0 l.put.1 (ws ++ word ∷ []) l.put.2 h.is_last.spelled.is_record there in
@@ -104,10 +104,10 @@ next_kept : (words : List ℕ) (log : Log) (sealed : List Sealed) (key : ℕ) (w
 next_kept words log sealed key wish at from count ws follows call view room placed rs floor word s t z h e more =
     let l : IsLoaded words log (fetch_at key wish at (Content from count) ws follows) h.of from count = h.loaded in
     let n : IsNamed words log h.of.offset = segment_of words log sealed placed rs (key_of call) h.of s h.is_last in
-    let fits : h.of.offset % 1024 + words_of_lem h.of.entry ≤ 1024 = fits_within h.of.offset h.of.entry h.is_last.spelled.fits in
+    let fits : h.of.offset % 1024 + length_in_words h.of.entry ≤ 1024 = fits_within h.of.offset h.of.entry h.is_last.spelled.fits in
     let all : List ℕ = spelling h.of.entry in
-    let long : length all ≡ words_of_lem h.of.entry = put_length h.of.entry l.put.0 l.put.1 l.put.2 in
-    let count_is : count ≡ words_of_lem h.of.entry = l.whole in
+    let long : length all ≡ length_in_words h.of.entry = put_length h.of.entry l.put.0 l.put.1 l.put.2 in
+    let count_is : count ≡ length_in_words h.of.entry = l.whole in
     let lt : length ws < length all = omega arith in
     let size : length (ws ++ word ∷ []) ≡ length ws + 1 = length-append ws (word ∷ []) in
     let begins : from ≡ place words log.lane h.of.offset = l.begins in
@@ -144,10 +144,10 @@ content_kept words log sealed key wish at from count ws follows call view room p
     let h = a.fetching in
     let l : IsLoaded words log (fetch_at key wish at (Content from count) ws follows) h.of from count = h.loaded in
     let r : Record = h.of.entry in
-    let fits : h.of.offset % 1024 + words_of_lem r ≤ 1024 = fits_within h.of.offset r h.is_last.spelled.fits in
-    let long : length (spelling r) ≡ words_of_lem r = put_length r l.put.0 l.put.1 l.put.2 in
-    let lt : length ws < words_of_lem r = omega (arith, l.more, l.whole) in
-    let row : place words log.lane (h.of.offset + length ws) ≡ place words log.lane h.of.offset + length ws = in_row words log.lane h.of.offset (length ws) (words_of_lem r) fits lt in
+    let fits : h.of.offset % 1024 + length_in_words r ≤ 1024 = fits_within h.of.offset r h.is_last.spelled.fits in
+    let long : length (spelling r) ≡ length_in_words r = put_length r l.put.0 l.put.1 l.put.2 in
+    let lt : length ws < length_in_words r = omega (arith, l.more, l.whole) in
+    let row : place words log.lane (h.of.offset + length ws) ≡ place words log.lane h.of.offset + length ws = in_row words log.lane h.of.offset (length ws) (length_in_words r) fits lt in
     let address : from + length ws ≡ place words log.lane (h.of.offset + length ws) = omega (arith, row, l.begins) in
     let there : word ≡ get_or (spelling r) (length ws) 0 =
     e ∙ ap (λ x. word_at words x) address ∙ stands_at (offsets words log.lane) h.of.offset (spelling r) (length ws) 0 h.is_last.spelled.stands (omega (arith, long, lt)) in

@@ -20,7 +20,7 @@ use Rattle.dn_locate.specs.declared.fetches.Wish.{Wish}
 use Rattle.dn_locate.specs.declared.fetches.Wish.TheVariants.{Value, Kind, Place}
 use Rattle.dn_locate.specs.declared.steps.FetchStep.{FetchStep}
 use Rattle.dn_record.specs.Reading.{head_in}
-use Rattle.dn_record.specs.Record.{head_of, words_of_lem, value_of}
+use Rattle.dn_record.specs.Record.{head_of, length_in_words, value_of}
 use Rattle.dn_record.specs.declared.heads.Head.{Head}
 use Rattle.dn_record.specs.declared.records.Record.{Record}
 use Rattle.dn_record.specs.declared.records.Record.TheVariants as entry
@@ -151,7 +151,7 @@ names word pool some within = grind (arith, nat_tests)
 -- the record lies in a segment that the directory names
 pub segment_of : (words : List ℕ) (log : Log) (sealed : List Sealed) (placed : List Placed) (rs : List Receipt) (key : ℕ) (p : Placed) → IsStanding words log sealed placed rs → IsLast words log key placed p → IsNamed words log p.offset
 segment_of words log sealed placed rs key p s h =
-    let some : 0 < words_of_lem p.entry = some_words p.entry h.spelled.is_record in
+    let some : 0 < length_in_words p.entry = some_words p.entry h.spelled.is_record in
     named words log sealed placed rs p.offset s (omega (arith, h.inside))
 
 pub directory_kept : (words : List ℕ) (log : Log) (sealed : List Sealed) (key : ℕ) (wish : Wish) (at : Ref) (ws : List ℕ) (follows : ℕ) (call : Call) (view : SessionView) (room : List ℕ) (placed : List Placed) (rs : List Receipt) (floor : ℕ)
@@ -190,7 +190,7 @@ header_by : (words : List ℕ) (log : Log) (sealed : List Sealed) (key : ℕ) (w
     → IsStanding words log sealed placed rs → IsTimed words log (fetching call view room floor) rs → floor ≡ 0
     → wish ≡ wish_of call → unmerged (key_of call) 0 placed ≡ Some r → is_plain r ≡ true → is_authority (key_of call) r ≡ true
     → ((its : ℕ) (value : List ℕ) → r ≡ entry.Put its value → wish ≡ Value
-    → Keeps (fetching call view room floor) (stamp_in words log) words rs (stepped log sealed (fetch_at key wish at (Header from) [] follows) (fetching call view room floor) floor word (on (Content from (words_of_lem r)))))
+    → Keeps (fetching call view room floor) (stamp_in words log) words rs (stepped log sealed (fetch_at key wish at (Header from) [] follows) (fetching call view room floor) floor word (on (Content from (length_in_words r)))))
     → Keeps (fetching call view room floor) (stamp_in words log) words rs (stepped log sealed (fetch_at key wish at (Header from) [] follows) (fetching call view room floor) floor word (by_rest from (rest_of (head_of r) wish)))
 header_by words log sealed key Value at from follows call view room placed rs floor word (entry.Put its value) s t z w u p a more = more its value refl refl
 header_by words log sealed key Kind at from follows call view room placed rs floor word (entry.Put its value) s t z w u p a more =
@@ -210,16 +210,16 @@ begun_kept : (words : List ℕ) (log : Log) (sealed : List Sealed) (key : ℕ) (
     → IsStanding words log sealed placed rs → IsTimed words log (fetching call view room floor) rs
     → (h : IsFetching words log (fetch_at key wish at (Header from) [] follows) call placed) → floor ≡ 0 → word ≡ offsets words log.lane h.of.offset
     → (its : ℕ) (value : List ℕ) → h.of.entry ≡ entry.Put its value → wish ≡ Value
-    → Keeps (fetching call view room floor) (stamp_in words log) words rs (stepped log sealed (fetch_at key wish at (Header from) [] follows) (fetching call view room floor) floor word (on (Content from (words_of_lem h.of.entry))))
+    → Keeps (fetching call view room floor) (stamp_in words log) words rs (stepped log sealed (fetch_at key wish at (Header from) [] follows) (fetching call view room floor) floor word (on (Content from (length_in_words h.of.entry))))
 begun_kept words log sealed key wish at from follows call view room placed rs floor word s t h z e its value is w =
     let n : IsNamed words log h.of.offset = segment_of words log sealed placed rs (key_of call) h.of s h.is_last in
-    let fits : h.of.offset % 1024 + words_of_lem h.of.entry ≤ 1024 = fits_within h.of.offset h.of.entry h.is_last.spelled.fits in
-    let long : words_of_lem h.of.entry ≡ words_of_lem (entry.Put its value) = ap words_of_lem is in
+    let fits : h.of.offset % 1024 + length_in_words h.of.entry ≤ 1024 = fits_within h.of.offset h.of.entry h.is_last.spelled.fits in
+    let long : length_in_words h.of.entry ≡ length_in_words (entry.Put its value) = ap length_in_words is in
     let begins : from ≡ place words log.lane h.of.offset = h.loaded.1 in
     let low : from + length (word ∷ []) < 98304 + 1024 * log.pool = omega (arith, begins, n.within, fits, long) in
-    in_pool words (running log sealed [] (fetch_at key wish at (Content from (words_of_lem h.of.entry)) (word ∷ []) follows) (fetching call view room floor)) (fetching call view room floor) floor rs
+    in_pool words (running log sealed [] (fetch_at key wish at (Content from (length_in_words h.of.entry)) (word ∷ []) follows) (fetching call view room floor)) (fetching call view room floor) floor rs
     (nat_lt (from + length (word ∷ [])) (98304 + 1024 * log.pool)) (below (from + length (word ∷ [])) log.pool low)
-    (more_kept words log sealed (fetch_at key wish at (Content from (words_of_lem h.of.entry)) (word ∷ []) follows) call view room placed rs floor s t z
+    (more_kept words log sealed (fetch_at key wish at (Content from (length_in_words h.of.entry)) (word ∷ []) follows) call view room placed rs floor s t z
     (record {
       of = h.of;
       is_last = h.is_last;

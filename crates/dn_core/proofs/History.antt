@@ -9,7 +9,7 @@ use Rattle.dn_hist.specs.Receipt.{IsInOrder}
 use Rattle.dn_hist.specs.Replay.{IsLegal, map_left}
 use Rattle.dn_hist.specs.declared.receipts.Receipt.{Receipt}
 use Rattle.dn_record.specs.Grammar.{FieldsFit}
-use Rattle.dn_record.specs.Record.{value_of, words_of_lem}
+use Rattle.dn_record.specs.Record.{value_of, length_in_words}
 use Rattle.dn_record.specs.declared.records.Record.{Record}
 use Rattle.dn_record.specs.declared.records.Record.TheVariants.{Put, Delete, Share, Unshare, Loose, LooseDelete, Pad}
 use Rattle.dn_log.specs.Log.{reach_of, IsFit}
@@ -41,7 +41,7 @@ not_of_zero (Pad words) fits e = false≢true e
 
 none_of_zero : (words : ℕ → ℕ) (o end : ℕ) (log : List Placed) → Tiles words o log end → Each (λ p. is_authority 0 p.entry ≡ true → ⊥) log
 none_of_zero words o end [] h = tt
-none_of_zero words o end (p ∷ ps) h = (not_of_zero p.entry h.1.is_record.fields_fit, none_of_zero words (o + words_of_lem p.entry) end ps h.2)
+none_of_zero words o end (p ∷ ps) h = (not_of_zero p.entry h.1.is_record.fields_fit, none_of_zero words (o + length_in_words p.entry) end ps h.2)
 
 nothing_left : (found : Option Record) → ((r : Record) → found ≡ Some r → ⊥) → option_and_then value_of found ≡ None
 nothing_left None h = refl

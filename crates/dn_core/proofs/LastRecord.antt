@@ -5,7 +5,7 @@ use Rattle.std.specs.Option.{option_map}
 use mathlib.Core.List.{reverse_aux}
 use Rattle.std.proofs.lemmas.Bool.{false≢true}
 use Rattle.std.proofs.lemmas.List.Elements.{All-head, All-tail}
-use Rattle.dn_record.specs.Record.{words_of_lem}
+use Rattle.dn_record.specs.Record.{length_in_words}
 use Rattle.dn_record.specs.declared.records.Record.{Record}
 use Rattle.dn_record.specs.declared.records.Record.TheVariants.{Put, Delete, Share, Unshare, Loose, LooseDelete, Pad}
 use Rattle.dn_log.specs.Log.{Log}
@@ -30,7 +30,7 @@ pub record Leads (w : ℕ → ℕ) (key end offset : ℕ) (last : Option Record)
   pub of_key : is_authority key of.entry ≡ true
   pub plain : is_plain of.entry ≡ true
   pub spelled : SpellsAt w of.offset of.entry
-  pub inside : of.offset + words_of_lem of.entry ≤ end
+  pub inside : of.offset + length_in_words of.entry ≤ end
 
 -- what an offset, or none, says of what was found last
 abbrev pub Told : (ℕ → ℕ) → ℕ → ℕ → Option ℕ → Option Record → Type 0
@@ -49,7 +49,7 @@ Goes w key end ps = (done : List Sealed) (old : Option Placed) → Told w key en
 
 -- a record that the lane keeps is found if it is of the key
 kept_by : (w : ℕ → ℕ) (key end its : ℕ) (p : Placed) (ps : List Placed) (done : List Sealed) (old : Option Placed) (b : Bool) → Goes w key end ps
-    → is_authority key p.entry ≡ b → (its == key) ≡ b → is_plain p.entry ≡ true → SpellsAt w p.offset p.entry → p.offset + words_of_lem p.entry ≤ end
+    → is_authority key p.entry ≡ b → (its == key) ≡ b → is_plain p.entry ≡ true → SpellsAt w p.offset p.entry → p.offset + length_in_words p.entry ≤ end
     → Told w key end (first_of key done) (entry_of old)
     → Told w key end (first_of key (reverse_aux (sealed_in ps) (record { key = its; offset = p.offset } ∷ done))) (entry_of (last_or old (cond b (p ∷ authorities key 0 ps) (authorities key 0 ps))))
 kept_by w key end its p ps done old true rest a e plain s le told =
@@ -64,7 +64,7 @@ kept_by w key end its p ps done old false rest a e plain s le told =
     rest (x ∷ done) old (subst P (sym f) told)
 
 by_entry : (w : ℕ → ℕ) (key end offset : ℕ) (entry : Record) (ps : List Placed) (done : List Sealed) (old : Option Placed) → Goes w key end ps
-    → is_plain entry ≡ true → SpellsAt w offset entry → offset + words_of_lem entry ≤ end
+    → is_plain entry ≡ true → SpellsAt w offset entry → offset + length_in_words entry ≤ end
     → Told w key end (first_of key done) (entry_of old)
     → Told w key end (first_of key (reverse_aux (kept_of offset entry ++ sealed_in ps) done)) (entry_of (last_or old (cond (is_authority key entry) (record { offset = offset; entry = entry } ∷ authorities key 0 ps) (authorities key 0 ps))))
 by_entry w key end offset (Put its value) ps done old rest plain s le told = kept_by w key end its (record { offset = offset; entry = Put its value }) ps done old (nat_eq its key) rest refl refl plain s le told
@@ -79,12 +79,12 @@ by_entry w key end offset (Pad words) ps done old rest plain s le told = rest do
 told_along : (w : ℕ → ℕ) (key end o : ℕ) (ps : List Placed) → Tiles w o ps end → All (λ (p : Placed). is_plain p.entry ≡ true) ps → Goes w key end ps
 told_along w key end o [] tiles plain done old told = told
 told_along w key end o (p ∷ ps) tiles plain done old told =
-    let le : o + words_of_lem p.entry ≤ end = tiles_le w (o + words_of_lem p.entry) end ps tiles.2 in
+    let le : o + length_in_words p.entry ≤ end = tiles_le w (o + length_in_words p.entry) end ps tiles.2 in
     let P : ℕ → Type 0 = λ n. SpellsAt w n p.entry in
     let here : SpellsAt w p.offset p.entry = subst P (sym tiles.0) tiles.1 in
     let Q : Bool → Type 0 = λ b. Told w key end (first_of key (reverse_aux (sealed_in (p ∷ ps)) done)) (entry_of (last_or old (cond b (p ∷ authorities key 0 ps) (authorities key 0 ps)))) in
     subst Q (sym (from_start p.offset (is_authority key p.entry))) (by_entry w key end p.offset p.entry ps done old
-    (told_along w key end (o + words_of_lem p.entry) ps tiles.2 (All-tail (λ (q : Placed). is_plain q.entry ≡ true) p ps plain))
+    (told_along w key end (o + length_in_words p.entry) ps tiles.2 (All-tail (λ (q : Placed). is_plain q.entry ≡ true) p ps plain))
     (All-head (λ (q : Placed). is_plain q.entry ≡ true) p ps plain) here (let f : p.offset ≡ o = tiles.0 in omega arith) told)
 
 -- what the lane keeps tells what is the last put or delete of a key in the log

@@ -1,7 +1,7 @@
 use Rattle.std.proofs.Common.{ℕ, ◌+◌, ◌%◌, ◌≤◌, ◌≡◌, List, ◌++◌, length, Option, Some, None, sym, ap, subst, arith}
 use Rattle.std.proofs.lemmas.Grind.{common_steps}
 use Rattle.dn_hist.specs.declared.calls.Call.{Call}
-use Rattle.dn_record.specs.Record.{spelling, words_of_lem}
+use Rattle.dn_record.specs.Record.{spelling, length_in_words}
 use Rattle.dn_record.specs.declared.records.Record.TheVariants as entry
 use Rattle.dn_log.specs.Log.{Log, plan_of, start_of, new_segment_of, Fills, IsPad}
 use Rattle.dn_log.proofs.PlanLaws.{plan-fills}
@@ -42,13 +42,13 @@ PadStands w None = Unit {0}
 PadStands w (Some pad) = Stand w pad.0 (spelling (entry.Pad pad.1))
 
 tiles_pad : (w : ℕ → ℕ) (pad : Option (ℕ × ℕ)) (from at words : ℕ) (call : Call) → words ≤ 1024 → Fills pad from at words → PadStands w pad → SpellsAt w at (record_of call)
-    → Tiles w from (added pad at call) (at + words_of_lem (record_of call))
+    → Tiles w from (added pad at call) (at + length_in_words (record_of call))
 tiles_pad w None from at words call m f p s =
-    let P : ℕ → Type 0 = λ x. Tiles w x (added None at call) (at + words_of_lem (record_of call)) in
+    let P : ℕ → Type 0 = λ x. Tiles w x (added None at call) (at + length_in_words (record_of call)) in
     subst P (sym f) (tiles_one w at (record_of call) s)
 tiles_pad w (Some pad) from at words call m f p s =
     let facts : PadFacts from at pad.1 = pad_facts pad from at words m f in
-    let P : ℕ → Type 0 = λ x. Tiles w x (added None at call) (at + words_of_lem (record_of call)) in
+    let P : ℕ → Type 0 = λ x. Tiles w x (added None at call) (at + length_in_words (record_of call)) in
     let Q : ℕ → Type 0 = λ x. Stand w x (spelling (entry.Pad pad.1)) in (
       f.begins,
       record {

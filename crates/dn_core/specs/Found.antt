@@ -3,7 +3,7 @@ use Rattle.dn_hist.specs.Calls.{key_of, found_of}
 use Rattle.dn_hist.specs.declared.calls.Call.{Call}
 use Rattle.dn_hist.specs.declared.calls.Call.TheVariants.{Get, Put, Delete}
 use Rattle.dn_hist.specs.declared.calls.Reply.{Reply}
-use Rattle.dn_record.specs.Record.{spelling, words_of_lem}
+use Rattle.dn_record.specs.Record.{spelling, length_in_words}
 use Rattle.dn_record.specs.declared.records.Record.{Record}
 use Rattle.dn_record.specs.declared.records.Record.TheVariants as entry
 use Rattle.dn_locate.specs.Fetch.{Fetching}
@@ -44,14 +44,14 @@ pub record IsLast (words : List ℕ) (log : Log) (key : ℕ) (placed : List Plac
   pub of_key : is_authority key p.entry ≡ true
   pub plain : is_plain p.entry ≡ true
   pub spelled : SpellsAt (offsets words log.lane) p.offset p.entry
-  pub inside : p.offset + words_of_lem p.entry ≤ log.len
+  pub inside : p.offset + length_in_words p.entry ≤ log.len
 
 -- so many words of a put's record are loaded, and the rest of it is left
 pub record IsLoaded (words : List ℕ) (log : Log) (fetch : Fetching) (p : Placed) (from count : ℕ) : Type 0 where
   pub wished : fetch.wish ≡ Value
   pub put : (key : ℕ) × (value : List ℕ) × (p.entry ≡ entry.Put key value)
   pub begins : from ≡ place words log.lane p.offset
-  pub whole : count ≡ words_of_lem p.entry
+  pub whole : count ≡ length_in_words p.entry
   pub so_far : fetch.words ≡ take (length fetch.words) (spelling p.entry)
   pub some : 1 ≤ length fetch.words
   pub more : length fetch.words < count

@@ -3,7 +3,7 @@ use Rattle.dn_word.specs.Gate.{gate_of}
 use Rattle.dn_act.specs.Words.{word_at}
 use Rattle.dn_act.proofs.Words.{word_at-set_same, word_at-set_other}
 use Rattle.dn_record.specs.Grammar.{IsRecord}
-use Rattle.dn_record.specs.Record.{spelling, words_of_lem}
+use Rattle.dn_record.specs.Record.{spelling, length_in_words}
 use Rattle.dn_record.specs.Values.{words_for, words_from}
 use Rattle.dn_record.specs.declared.records.Record.{Record}
 use Rattle.dn_record.specs.declared.records.Record.TheVariants.{Put, Delete, Share, Unshare, Loose, LooseDelete, Pad}
@@ -21,7 +21,7 @@ length-words_from zero bytes = refl
 length-words_from (suc n) bytes = let rest = length-words_from n (drop 8 bytes) in omega (arith, rest)
 
 -- a spelling isn't longer than its record
-pub spelled_within : (r : Record) → IsRecord r → length (spelling r) ≤ words_of_lem r
+pub spelled_within : (r : Record) → IsRecord r → length (spelling r) ≤ length_in_words r
 spelled_within (Put key value) h = omega (arith, length-words_from (words_for (length value)) value)
 spelled_within (Delete key) h = omega arith
 spelled_within (Share key cell opening) h = omega arith
@@ -31,7 +31,7 @@ spelled_within (LooseDelete key) h = omega arith
 spelled_within (Pad words) h = omega (arith, h.fields_fit.0)
 
 -- a record has a word
-pub some_words : (r : Record) → IsRecord r → 0 < words_of_lem r
+pub some_words : (r : Record) → IsRecord r → 0 < length_in_words r
 some_words (Put key value) h = omega arith
 some_words (Delete key) h = omega arith
 some_words (Share key cell opening) h = omega arith
@@ -43,30 +43,30 @@ some_words (Pad words) h = omega (arith, h.fields_fit.0)
 -- ---- records that tile
 pub tiles_le : (w : ℕ → ℕ) (o end : ℕ) (log : List Placed) → Tiles w o log end → o ≤ end
 tiles_le w o end [] h = omega (arith, h)
-tiles_le w o end (p ∷ ps) h = let r : o + words_of_lem p.entry ≤ end = tiles_le w (o + words_of_lem p.entry) end ps h.2 in omega arith
+tiles_le w o end (p ∷ ps) h = let r : o + length_in_words p.entry ≤ end = tiles_le w (o + length_in_words p.entry) end ps h.2 in omega arith
 
 -- the same records tile other words that agree between the two offsets
 pub tiles_frame : (w v : ℕ → ℕ) (o end : ℕ) (log : List Placed) → ((i : ℕ) → o ≤ i → i < end → v i ≡ w i) → Tiles w o log end → Tiles v o log end
 tiles_frame w v o end [] same h = h
 tiles_frame w v o end (p ∷ ps) same h =
-    let le : o + words_of_lem p.entry ≤ end = tiles_le w (o + words_of_lem p.entry) end ps h.2 in
-    let short : length (spelling p.entry) ≤ words_of_lem p.entry = spelled_within p.entry h.1.is_record in (
+    let le : o + length_in_words p.entry ≤ end = tiles_le w (o + length_in_words p.entry) end ps h.2 in
+    let short : length (spelling p.entry) ≤ length_in_words p.entry = spelled_within p.entry h.1.is_record in (
       h.0,
       record {
         is_record = h.1.is_record;
         stands = stand_frame w v o (spelling p.entry) (λ i a b. same i a (omega arith)) h.1.stands;
         fits = h.1.fits;
       },
-      tiles_frame w v (o + words_of_lem p.entry) end ps (λ i a b. same i (omega arith) b) h.2,
+      tiles_frame w v (o + length_in_words p.entry) end ps (λ i a b. same i (omega arith) b) h.2,
     )
 
 -- records behind records
 pub tiles_append : (w : ℕ → ℕ) (o middle end : ℕ) (log more : List Placed) → Tiles w o log middle → Tiles w middle more end → Tiles w o (log ++ more) end
 tiles_append w o middle end [] more h g = let P : ℕ → Type 0 = λ x. Tiles w x more end in subst P (sym h) g
-tiles_append w o middle end (p ∷ ps) more h g = (h.0, h.1, tiles_append w (o + words_of_lem p.entry) middle end ps more h.2 g)
+tiles_append w o middle end (p ∷ ps) more h g = (h.0, h.1, tiles_append w (o + length_in_words p.entry) middle end ps more h.2 g)
 
 -- one record
-pub tiles_one : (w : ℕ → ℕ) (o : ℕ) (r : Record) → SpellsAt w o r → Tiles w o (record { offset = o; entry = r } ∷ []) (o + words_of_lem r)
+pub tiles_one : (w : ℕ → ℕ) (o : ℕ) (r : Record) → SpellsAt w o r → Tiles w o (record { offset = o; entry = r } ∷ []) (o + length_in_words r)
 tiles_one w o r h = (refl, h, refl)
 
 offsets_same : (words now : List ℕ) (n : ℕ) (log : List Placed) → IsLog words n log → SameLog words now n → (o : ℕ) → o < (gate words n).len → offsets now n o ≡ offsets words n o

@@ -5,7 +5,7 @@ use Rattle.std.proofs.lemmas.Map.Lookups.{exact_unsigned}
 use Rattle.std.specs.FinMap.{get, same_map}
 use Rattle.dn_hist.specs.Calls.{Bytes}
 use Rattle.dn_record.specs.Grammar.{IsRecord}
-use Rattle.dn_record.specs.Record.{spelling, words_of_lem}
+use Rattle.dn_record.specs.Record.{spelling, length_in_words}
 use Rattle.dn_record.specs.declared.records.Record.{Record}
 use Rattle.dn_record.proofs.LawLemmas.{no_prefix}
 use Rattle.dn_model.specs.Regions.{gate, mark, owner, home_of, offsets, IsLane}
@@ -39,13 +39,13 @@ same_placed p q e f = λ i. record { offset = e i; entry = f i }
 
 pub one_tiling : (w : ℕ → ℕ) (o end : ℕ) (a b : List Placed) → Tiles w o a end → Tiles w o b end → a ≡ b
 one_tiling w o end [] [] h g = refl
-one_tiling w o end [] (q ∷ qs) h g = absurd (omega (arith, h, some_words q.entry g.1.is_record, tiles_le w (o + words_of_lem q.entry) end qs g.2))
-one_tiling w o end (p ∷ ps) [] h g = absurd (omega (arith, g, some_words p.entry h.1.is_record, tiles_le w (o + words_of_lem p.entry) end ps h.2))
+one_tiling w o end [] (q ∷ qs) h g = absurd (omega (arith, h, some_words q.entry g.1.is_record, tiles_le w (o + length_in_words q.entry) end qs g.2))
+one_tiling w o end (p ∷ ps) [] h g = absurd (omega (arith, g, some_words p.entry h.1.is_record, tiles_le w (o + length_in_words p.entry) end ps h.2))
 one_tiling w o end (p ∷ ps) (q ∷ qs) h g =
     let same : p.entry ≡ q.entry = one_record w o p.entry q.entry h.1 g.1 in
     let head : p ≡ q = same_placed p q (h.0 ∙ sym g.0) same in
-    let P : Record → Type 0 = λ r. Tiles w (o + words_of_lem r) ps end in
-    let rest : ps ≡ qs = one_tiling w (o + words_of_lem q.entry) end ps qs (subst P same h.2) g.2 in
+    let P : Record → Type 0 = λ r. Tiles w (o + length_in_words r) ps end in
+    let rest : ps ≡ qs = one_tiling w (o + length_in_words q.entry) end ps qs (subst P same h.2) g.2 in
     cc
 
 pub one_log : (words : List ℕ) (n : ℕ) (a b : List Placed) → IsLog words n a → IsLog words n b → a ≡ b
@@ -88,7 +88,7 @@ one_map words a b h g = same_map nat_cmp_total exact_unsigned a b at where
 -- ---- the map stays where what it rests on stays
 tiled_records : (w : ℕ → ℕ) (o end : ℕ) (log : List Placed) → Tiles w o log end → Each (λ p. IsRecord p.entry) log
 tiled_records w o end [] h = tt
-tiled_records w o end (p ∷ ps) h = (h.1.is_record, tiled_records w (o + words_of_lem p.entry) end ps h.2)
+tiled_records w o end (p ∷ ps) h = (h.1.is_record, tiled_records w (o + length_in_words p.entry) end ps h.2)
 
 nothing_in : (P : Record → Type 0) (log : List Placed) → log ≡ [] → Each (λ p. P p.entry) log
 nothing_in P log e = let Q : List Placed → Type 0 = λ ps. Each (λ p. P p.entry) ps in subst Q (sym e) tt

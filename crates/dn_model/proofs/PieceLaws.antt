@@ -2,7 +2,7 @@ use Rattle.std.proofs.Common.{ℕ, zero, suc, inl, inr, ◌+◌, ◌-◌, ◌/�
 use Rattle.std.proofs.lemmas.Grind.{common_steps}
 use Rattle.std.proofs.lemmas.Bool.{cases_lt}
 use Rattle.dn_record.specs.Grammar.{IsRecord, FrontSpells}
-use Rattle.dn_record.specs.Record.{spelling, words_of_lem}
+use Rattle.dn_record.specs.Record.{spelling, length_in_words}
 use Rattle.dn_record.specs.declared.records.Record.{Record}
 use Rattle.dn_record.specs.declared.records.Record.TheVariants.{Put, Delete, Share, Unshare, Loose, LooseDelete, Pad}
 use Rattle.dn_record.proofs.SpelledLemmas.{length-spelling}
@@ -90,7 +90,7 @@ fits_pad o (LooseDelete key) h = tt
 fits_pad o (Pad words) h = h
 
 -- a record that fits ends in its own segment, or at its end
-pub fits_within : (o : ℕ) (r : Record) → Fits o r → o % 1024 + words_of_lem r ≤ 1024
+pub fits_within : (o : ℕ) (r : Record) → Fits o r → o % 1024 + length_in_words r ≤ 1024
 fits_within o (Put key value) h = h
 fits_within o (Delete key) h = h
 fits_within o (Share key cell opening) h = h
@@ -106,19 +106,19 @@ no_record w o len [] h lt none = absurd (omega (arith, h, lt))
 no_record w o len (p ∷ ps) h lt none = none p.entry h.1
 
 -- behind the record that stands the rest goes on
-pub record_read : (w : ℕ → ℕ) (o next len : ℕ) (e : Record) (more : List Placed) → next ≡ o + words_of_lem e → Tiles w o more len → o < len → ((r : Record) → SpellsAt w o r → e ≡ r) → (rest : List Placed) × Tiles w next rest len
+pub record_read : (w : ℕ → ℕ) (o next len : ℕ) (e : Record) (more : List Placed) → next ≡ o + length_in_words e → Tiles w o more len → o < len → ((r : Record) → SpellsAt w o r → e ≡ r) → (rest : List Placed) × Tiles w next rest len
 record_read w o next len e [] is h lt one = absurd (omega (arith, h, lt))
 record_read w o next len e (p ∷ ps) is h lt one =
     let P : ℕ → Type 0 = λ x. Tiles w x ps len in
-    (ps, subst P (sym (is ∙ ap (λ r. o + words_of_lem r) (one p.entry h.1))) h.2)
+    (ps, subst P (sym (is ∙ ap (λ r. o + length_in_words r) (one p.entry h.1))) h.2)
 
-pub tiles_push : (w : ℕ → ℕ) (o next : ℕ) (log now : List Placed) (e : Record) → next ≡ o + words_of_lem e → now ≡ log ++ record { offset = o; entry = e } ∷ [] → Tiles w 0 log o → SpellsAt w o e → Tiles w 0 now next
+pub tiles_push : (w : ℕ → ℕ) (o next : ℕ) (log now : List Placed) (e : Record) → next ≡ o + length_in_words e → now ≡ log ++ record { offset = o; entry = e } ∷ [] → Tiles w 0 log o → SpellsAt w o e → Tiles w 0 now next
 tiles_push w o next log now e is items h s =
     let P : ℕ → Type 0 = λ x. Tiles w 0 now x in
-    let Q : List Placed → Type 0 = λ xs. Tiles w 0 xs (o + words_of_lem e) in
-    subst P (sym is) (subst Q (sym items) (tiles_append w 0 o (o + words_of_lem e) log (record { offset = o; entry = e } ∷ []) h (tiles_one w o e s)))
+    let Q : List Placed → Type 0 = λ xs. Tiles w 0 xs (o + length_in_words e) in
+    subst P (sym is) (subst Q (sym items) (tiles_append w 0 o (o + length_in_words e) log (record { offset = o; entry = e } ∷ []) h (tiles_one w o e s)))
 
-pub covered_push : (words : List ℕ) (n o next : ℕ) (e : Record) → next ≡ o + words_of_lem e → IsCovered words n o → Fits o e → o < 262144 → 0 < directory words n (o / 1024) → IsCovered words n next
+pub covered_push : (words : List ℕ) (n o next : ℕ) (e : Record) → next ≡ o + length_in_words e → IsCovered words n o → Fits o e → o < 262144 → 0 < directory words n (o / 1024) → IsCovered words n next
 covered_push words n o next e is h fits lt named i il = elim (cases_lt i o) [
   | inl below ↦ h i below
   | inr above ↦ (let f = fits_within o e fits in

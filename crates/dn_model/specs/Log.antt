@@ -1,6 +1,6 @@
 use Rattle.std.specs.Prelude.{◌≡◌, ℕ, ◌+◌, ◌/◌, ◌%◌, ◌<◌, ◌≤◌, List, [], ◌∷◌}
 use Rattle.dn_record.specs.Grammar.{IsRecord}
-use Rattle.dn_record.specs.Record.{spelling, words_of_lem}
+use Rattle.dn_record.specs.Record.{spelling, length_in_words}
 use Rattle.dn_record.specs.declared.records.Record.{Record}
 use Rattle.dn_record.specs.declared.records.Record.TheVariants.{Put, Delete, Share, Unshare, Loose, LooseDelete, Pad}
 pub use Rattle.dn_model.specs.declared.logs.Placed.{Placed}
@@ -14,11 +14,11 @@ Stand words o (x ∷ xs) = (words o ≡ x) × Stand words (o + 1) xs
 -- A record lies within one segment, and a pad reaches to the segment's end.
 abbrev pub Fits : ℕ → Record → Type 0
 Fits o (Pad words) = o % 1024 + words ≡ 1024
-Fits o (Put key value) = o % 1024 + words_of_lem (Put key value) ≤ 1024
+Fits o (Put key value) = o % 1024 + length_in_words (Put key value) ≤ 1024
 Fits o (Delete key) = o % 1024 + 2 ≤ 1024
 Fits o (Share key cell opening) = o % 1024 + 3 ≤ 1024
 Fits o (Unshare key at) = o % 1024 + 3 ≤ 1024
-Fits o (Loose key value) = o % 1024 + words_of_lem (Loose key value) ≤ 1024
+Fits o (Loose key value) = o % 1024 + length_in_words (Loose key value) ≤ 1024
 Fits o (LooseDelete key) = o % 1024 + 2 ≤ 1024
 
 -- what is asked of a pad alone
@@ -40,7 +40,7 @@ pub record SpellsAt (words : ℕ → ℕ) (o : ℕ) (r : Record) : Type 0 where
 -- From an offset up to the end the words are these records, each beginning where the one before it ends.
 abbrev pub Tiles : (ℕ → ℕ) → ℕ → List Placed → ℕ → Type 0
 Tiles words o [] end = o ≡ end
-Tiles words o (p ∷ ps) end = (p.offset ≡ o) × SpellsAt words o p.entry × Tiles words (o + words_of_lem p.entry) ps end
+Tiles words o (p ∷ ps) end = (p.offset ≡ o) × SpellsAt words o p.entry × Tiles words (o + length_in_words p.entry) ps end
 
 -- each offset up to the end lies in a segment that the lane's directory names
 abbrev pub IsCovered : List ℕ → ℕ → ℕ → Type 0

@@ -34,14 +34,14 @@ abbrev pub spelling : Record → List ℕ
 spelling r = head_word (head_of r) ∷ content r
 
 -- a record's length in words
-abbrev pub words_of_lem : Record → ℕ
-words_of_lem (Put key value) = 2 + words_for (length value)
-words_of_lem (Delete key) = 2
-words_of_lem (Share key cell opening) = 3
-words_of_lem (Unshare key at) = 3
-words_of_lem (Loose key value) = 2 + words_for (length value)
-words_of_lem (LooseDelete key) = 2
-words_of_lem (Pad words) = words
+abbrev pub length_in_words : Record → ℕ
+length_in_words (Put key value) = 2 + words_for (length value)
+length_in_words (Delete key) = 2
+length_in_words (Share key cell opening) = 3
+length_in_words (Unshare key at) = 3
+length_in_words (Loose key value) = 2 + words_for (length value)
+length_in_words (LooseDelete key) = 2
+length_in_words (Pad words) = words
 
 -- the length of a record's spelling: of a pad the header alone
 abbrev pub spelled_words : Record → ℕ

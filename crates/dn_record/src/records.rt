@@ -1,5 +1,5 @@
 ghost use Rattle.std.specs.Prelude.{◌≡◌};
-ghost use Rattle.dn_record.specs.Record.{words_of_lem, with_value};
+ghost use Rattle.dn_record.specs.Record.{length_in_words, with_value};
 
 use crate::heads::Head;
 use dn_word::{Ref, Value, ValueRoom};
@@ -67,7 +67,7 @@ impl Seen {
 
 /// The length of a record in words, its header among them; of a pad all that it skips.
 pub fn words_of(rec: &Record) -> u16
-    ensures { result ≡ words_of_lem rec.now }
+    ensures { result ≡ length_in_words rec.now }
 {
     Head::of(rec).words()
 }

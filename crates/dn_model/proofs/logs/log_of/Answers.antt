@@ -1,7 +1,7 @@
 use Rattle.std.proofs.Common.{ℕ, ◌≡◌, ◌+◌, ◌/◌, ◌++◌, ◌∷◌, [], Some, None, sym, ◌∙◌, ap, arith}
 use Rattle.std.proofs.lemmas.Grind.{common_steps}
 use Rattle.dn_act.specs.Words.{word_at}
-use Rattle.dn_record.specs.Record.{words_of_lem}
+use Rattle.dn_record.specs.Record.{length_in_words}
 use Rattle.dn_record.specs.declared.records.Record.{Record}
 use Rattle.dn_model.specs.Regions.{directory, offsets}
 use Rattle.dn_model.specs.Log.{SpellsAt}
@@ -30,7 +30,7 @@ loop-offset-preserved c =
     let o : ℕ = c.loop-offset.offset in
     let e : Record = c.in-Some.entry in
     let spells : SpellsAt w o e = rw c.in-Some.is at c.in_ok-entry.ensures.only in
-    let is : o + c.words_of.result ≡ o + words_of_lem e = ap (λ x. o + x) c.words_of.ensures in
+    let is : o + c.words_of.result ≡ o + length_in_words e = ap (λ x. o + x) c.words_of.ensures in
     let items : c.push.new.self.items ≡ c.loop-offset.log.items ++ record { offset = o; entry = e } ∷ [] = grind (arith, common_steps) in
     let at : directory c.args.words.now c.args.lane (o / 1024) ≡ c.word-else-offset-ge262144.result =
     ap (λ x. word_at c.args.words.now x) (omega (arith, c.directory_at.ensures)) ∙ sym c.word-else-offset-ge262144.ensures in
