@@ -11,7 +11,7 @@ ghost use Rattle.dn_print.specs.RefusalLine.{bad_words_text, bad_line_text};
 ghost use Rattle.dinomo.specs.Pool.{IsPoolSize, segments_of};
 ghost use Rattle.dinomo.specs.Command.{IsPlay, RefusesWords};
 ghost use Rattle.dinomo.specs.Headline.{WritesRun, WritesPart};
-ghost use Rattle.dinomo.specs.Verdict.{Meets, verdict_of, LeavesPool, LeavesSink, Writes};
+ghost use Rattle.dinomo.specs.Verdict.{Meets, verdict_of, IsPlayed, LeavesPool, LeavesSink, Writes};
 
 use crate::playing::{play, write_out};
 use dn_act::Memory;
@@ -44,7 +44,7 @@ pub fn run<S: Source, K: Sink, M: Memory>(
     ensures headline_part { IsPlay words.now → result ≡ Status.WriteFault → (left : List ℕ) (lines : List Line) → S.left source.old ≡ Some left → script_of left ≡ Ok lines → WritesPart (segments_of (length (M.words pool.old))) lines (M.words pool.new) (K.written sink.old) (K.written sink.new) }
     ensures complete { IsPlay words.now → (left : List ℕ) (lines : List Line) → S.left source.old ≡ Some left → length left ≤ 67108864 → script_of left ≡ Ok lines → (Rose (S.faults source.old) (S.faults source.new) → ⊥) → (Rose (K.faults sink.old) (K.faults sink.new) → ⊥) → M.faults pool.new ≡ M.faults pool.old → (result ≡ Status.Ok) ⊎ (result ≡ Status.OutOfMemory) }
     ensures end { result ≡ Status.Ok → IsAtEnd (S.left source.new) }
-    ensures unplayed_fault { IsPlay words.now → result ≡ Status.WriteFault → (left : List ℕ) (bad : BadLine) → S.left source.old ≡ Some left → script_of left ≡ Err bad → M.words pool.new ≡ M.words pool.old }
+    ensures unplayed_script { IsPlay words.now → (left : List ℕ) → S.left source.old ≡ Some left → (IsPlayed (verdict_of left) → ⊥) → M.words pool.new ≡ M.words pool.old }
     ensures bad_part { IsPlay words.now → result ≡ Status.WriteFault → (left : List ℕ) (bad : BadLine) → S.left source.old ≡ Some left → script_of left ≡ Err bad → WroteFront (K.written sink.old) (K.written sink.new) (bad_line_text bad.line (name_of bad.cause)) }
     ensures refused_part { (IsPlay words.now → ⊥) → result ≡ Status.WriteFault → WroteFront (K.written sink.old) (K.written sink.new) bad_words_text }
     ensures index { result ≢ Status.IndexFull }

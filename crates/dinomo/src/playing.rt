@@ -179,7 +179,6 @@ pub fn play<S: Source, K: Sink, M: Memory>(
     ensures headline_part { result ≡ Status.WriteFault → (left : List ℕ) (lines : List LineOf) → S.left source.old ≡ Some left → script_of left ≡ Ok lines → WritesPart (segments_of (length (M.words pool.old))) lines (M.words pool.new) (K.written sink.old) (K.written sink.new) }
     ensures complete { (left : List ℕ) (lines : List LineOf) → S.left source.old ≡ Some left → length left ≤ 67108864 → script_of left ≡ Ok lines → (Rose (S.faults source.old) (S.faults source.new) → ⊥) → (Rose (K.faults sink.old) (K.faults sink.new) → ⊥) → M.faults pool.new ≡ M.faults pool.old → (result ≡ Status.Ok) ⊎ (result ≡ Status.OutOfMemory) }
     ensures end { result ≡ Status.Ok → IsAtEnd (S.left source.new) }
-    ensures unplayed_fault { result ≡ Status.WriteFault → (left : List ℕ) (bad : BadLine) → S.left source.old ≡ Some left → script_of left ≡ Err bad → M.words pool.new ≡ M.words pool.old }
     ensures bad_part { result ≡ Status.WriteFault → (left : List ℕ) (bad : BadLine) → S.left source.old ≡ Some left → script_of left ≡ Err bad → WroteFront (K.written sink.old) (K.written sink.new) (bad_line_text bad.line (name_of bad.cause)) }
     // For a source that tells its bytes, the status is the one that they deserve, or one with a cause of its own.
     ensures script { (left : List ℕ) → S.left source.old ≡ Some left → Meets result (verdict_of left) }
@@ -192,7 +191,9 @@ pub fn play<S: Source, K: Sink, M: Memory>(
     ensures size { length (M.words pool.new) ≡ length (M.words pool.old) }
     ensures pool_fault { result ≡ Status.PoolFault → M.faults pool.old < M.faults pool.new }
     ensures no_fault { result ≢ Status.PoolFault → M.faults pool.new ≡ M.faults pool.old }
-    // Where no script was played, the pool stays; where there is no output, nothing is written.
+    // A script that isn't played leaves the pool, whatever the status, and so does a status that no play has, whatever the source
+    // tells; where there is no output, nothing is written.
+    ensures unplayed { (left : List ℕ) → S.left source.old ≡ Some left → (IsPlayed (verdict_of left) → ⊥) → M.words pool.new ≡ M.words pool.old }
     ensures untouched { LeavesPool result → M.words pool.new ≡ M.words pool.old }
     ensures unwritten { LeavesSink result → K.written sink.new ≡ K.written sink.old }
     ensures bad_line { result ≡ Status.BadScript → (left : List ℕ) (bad : BadLine) → S.left source.old ≡ Some left → script_of left ≡ Err bad → Writes (K.written sink.old) (K.written sink.new) (bad_line_text bad.line (name_of bad.cause)) }
