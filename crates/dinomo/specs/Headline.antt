@@ -31,3 +31,15 @@ EndsPlay status.ReadFault = ⊥
 EndsPlay status.BadScript = ⊥
 EndsPlay status.TooLong = ⊥
 EndsPlay status.IndexFull = ⊥
+
+-- the play was stopped, by a failed access of the pool or by want of memory
+abbrev pub IsStop : Status → Type 0
+IsStop status.PoolFault = Unit {0}
+IsStop status.OutOfMemory = Unit {0}
+IsStop status.Ok = ⊥
+IsStop status.WriteFault = ⊥
+IsStop status.BadWords = ⊥
+IsStop status.ReadFault = ⊥
+IsStop status.BadScript = ⊥
+IsStop status.TooLong = ⊥
+IsStop status.IndexFull = ⊥

@@ -10,7 +10,8 @@ ghost use Rattle.dn_io.specs.Whole.{WroteFront};
 ghost use Rattle.dn_print.specs.RefusalLine.{bad_words_text, bad_line_text};
 ghost use Rattle.dinomo.specs.Pool.{IsPoolSize, segments_of};
 ghost use Rattle.dinomo.specs.Command.{IsPlay, RefusesWords};
-ghost use Rattle.dinomo.specs.Headline.{WritesRun, WritesPart};
+ghost use Rattle.dinomo.specs.Headline.{WritesRun, WritesPart, IsStop};
+ghost use Rattle.dn_world.specs.Stopped.{IsStopped};
 ghost use Rattle.dinomo.specs.Verdict.{Meets, verdict_of, IsPlayed, LeavesPool, LeavesSink, Writes};
 
 use crate::playing::{play, write_out};
@@ -42,6 +43,7 @@ pub fn run<S: Source, K: Sink, M: Memory>(
     ensures script { IsPlay words.now → (left : List ℕ) → S.left source.old ≡ Some left → Meets result (verdict_of left) }
     ensures headline { IsPlay words.now → result ≡ Status.Ok → (left : List ℕ) (lines : List Line) → S.left source.old ≡ Some left → script_of left ≡ Ok lines → WritesRun (segments_of (length (M.words pool.old))) lines (M.words pool.new) (K.written sink.old) (K.written sink.new) }
     ensures headline_part { IsPlay words.now → result ≡ Status.WriteFault → (left : List ℕ) (lines : List Line) → S.left source.old ≡ Some left → script_of left ≡ Ok lines → WritesPart (segments_of (length (M.words pool.old))) lines (M.words pool.new) (K.written sink.old) (K.written sink.new) }
+    ensures stopped { IsPlay words.now → IsStop result → (left : List ℕ) (lines : List Line) → S.left source.old ≡ Some left → script_of left ≡ Ok lines → IsStopped (segments_of (length (M.words pool.old))) lines (M.words pool.new) }
     ensures complete { IsPlay words.now → (left : List ℕ) (lines : List Line) → S.left source.old ≡ Some left → length left ≤ 67108864 → script_of left ≡ Ok lines → (Rose (S.faults source.old) (S.faults source.new) → ⊥) → (Rose (K.faults sink.old) (K.faults sink.new) → ⊥) → M.faults pool.new ≡ M.faults pool.old → (result ≡ Status.Ok) ⊎ (result ≡ Status.OutOfMemory) }
     ensures end { result ≡ Status.Ok → IsAtEnd (S.left source.new) }
     ensures unplayed_script { IsPlay words.now → (left : List ℕ) → S.left source.old ≡ Some left → (IsPlayed (verdict_of left) → ⊥) → M.words pool.new ≡ M.words pool.old }

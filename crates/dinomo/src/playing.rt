@@ -1,6 +1,6 @@
 //! A play: a script is read, played over a pool, and its output written.
 
-ghost use Rattle.std.specs.Prelude.{◌≡◌, ◌≢◌, ◌⊎◌, ◌<◌, ◌≤◌, ◌+◌, ◌*◌, ◌^◌, ◌++◌, ℕ, List, [], Some, None, Ok, Err, All, length, min, IfOk, IfErr, OnOk, IsErrOf};
+ghost use Rattle.std.specs.Prelude.{◌≡◌, ◌≢◌, ◌⊎◌, ◌<◌, ◌≤◌, ◌+◌, ◌*◌, ◌^◌, ◌++◌, ℕ, List, [], Some, None, Ok, Err, All, length, min, IfOk, IfErr, OnOk, OnErr, IsErrOf};
 ghost use Rattle.dn_act.specs.Words.{IsZeros};
 ghost use Rattle.std.specs.Io.KnownBytes.{IsAtEnd};
 ghost use Rattle.dn_io.specs.Rose.{Rose};
@@ -12,8 +12,9 @@ ghost use Rattle.dn_print.specs.RefusalLine.{bad_line_text};
 ghost use Rattle.dinomo.specs.Pool.{IsPoolSize, segments_of};
 ghost use Rattle.dn_world.specs.Playing.{CallsLine};
 ghost use Rattle.dn_world.specs.Run.{IsRun};
+ghost use Rattle.dn_world.specs.Stopped.{StopsLine, IsStopped};
 ghost use Rattle.dinomo.specs.Verdict.{verdict_of, Meets, IsInputFault, IsPlayed, Writes, LeavesPool, LeavesSink};
-ghost use Rattle.dinomo.specs.Headline.{WritesRun, WritesPart, EndsPlay};
+ghost use Rattle.dinomo.specs.Headline.{WritesRun, WritesPart, EndsPlay, IsStop};
 
 use dn_act::Memory;
 use dn_io::{ReadAllFault, Sink, Source, Status, read_all, write_all};
@@ -74,6 +75,7 @@ fn call_line<M: Memory>(
 ) -> Result<(), Stop>
     requires size { 98304 + 1024 * world.old.lane.log.pool ≤ length (M.words pool.old) }
     requires idle { world.old.lane.work ≡ None }
+    ensures stopped { OnErr result (StopsLine (M.words pool.old) world.old line.now (M.words pool.new)) }
     ensures calls { OnOk result (CallsLine (M.words pool.old) world.old line.now out.old.items (M.words pool.new) world.new out.new.items) }
     ensures idle { OnOk result (world.new.lane.work ≡ None) }
     ensures pool { world.new.lane.log.pool ≡ world.old.lane.log.pool }
@@ -89,7 +91,7 @@ fn call_line<M: Memory>(
 }
 
 /// Plays the lines of a script over a pool whose words are all 0, and makes the output: what it is, and what the words are
-/// then, is that of a run of the lines.
+/// then, is that of a run of the lines. Where it stops, the words hold what the calls of the first lines leave.
 fn perform<M: Memory>(
     alloc: Global,
     pool: &mut M,
@@ -103,6 +105,7 @@ fn perform<M: Memory>(
     requires few { length script.now.lines ≤ 67108864 }
     requires empty { out.old.items ≡ [] }
     ensures run { OnOk result (IsRun script.now.segments script.now.lines (M.words pool.new) out.new.items) }
+    ensures stopped { OnErr result (IsStopped script.now.segments script.now.lines (M.words pool.new)) }
     ensures size { length (M.words pool.new) ≡ length (M.words pool.old) }
     ensures no_fault { OnOk result (M.faults pool.new ≡ M.faults pool.old) }
     ensures want { IsErrOf result Stop.OutOfMemory → M.faults pool.new ≡ M.faults pool.old }
@@ -146,6 +149,7 @@ fn play_script<K: Sink, M: Memory>(
     ensures ends { EndsPlay result }
     ensures ok { result ≡ Status.Ok → WritesRun script.now.segments script.now.lines (M.words pool.new) (K.written sink.old) (K.written sink.new) }
     ensures part { result ≡ Status.WriteFault → WritesPart script.now.segments script.now.lines (M.words pool.new) (K.written sink.old) (K.written sink.new) }
+    ensures stopped { IsStop result → IsStopped script.now.segments script.now.lines (M.words pool.new) }
     ensures write_fault { result ≡ Status.WriteFault → Rose (K.faults sink.old) (K.faults sink.new) }
     ensures no_write_fault { result ≢ Status.WriteFault → K.faults sink.new ≡ K.faults sink.old }
     ensures size { length (M.words pool.new) ≡ length (M.words pool.old) }
@@ -177,6 +181,9 @@ pub fn play<S: Source, K: Sink, M: Memory>(
     // front of that output was written. Where nothing fails, the script is played, or memory was wanting.
     ensures headline { result ≡ Status.Ok → (left : List ℕ) (lines : List LineOf) → S.left source.old ≡ Some left → script_of left ≡ Ok lines → WritesRun (segments_of (length (M.words pool.old))) lines (M.words pool.new) (K.written sink.old) (K.written sink.new) }
     ensures headline_part { result ≡ Status.WriteFault → (left : List ℕ) (lines : List LineOf) → S.left source.old ≡ Some left → script_of left ≡ Ok lines → WritesPart (segments_of (length (M.words pool.old))) lines (M.words pool.new) (K.written sink.old) (K.written sink.new) }
+    // Where an access of the pool failed, or memory was wanting, the pool holds the map that the calls of some first lines leave,
+    // each of them once and with the replies of a plain map.
+    ensures stopped { IsStop result → (left : List ℕ) (lines : List LineOf) → S.left source.old ≡ Some left → script_of left ≡ Ok lines → IsStopped (segments_of (length (M.words pool.old))) lines (M.words pool.new) }
     ensures complete { (left : List ℕ) (lines : List LineOf) → S.left source.old ≡ Some left → length left ≤ 67108864 → script_of left ≡ Ok lines → (Rose (S.faults source.old) (S.faults source.new) → ⊥) → (Rose (K.faults sink.old) (K.faults sink.new) → ⊥) → M.faults pool.new ≡ M.faults pool.old → (result ≡ Status.Ok) ⊎ (result ≡ Status.OutOfMemory) }
     ensures end { result ≡ Status.Ok → IsAtEnd (S.left source.new) }
     ensures bad_part { result ≡ Status.WriteFault → (left : List ℕ) (bad : BadLine) → S.left source.old ≡ Some left → script_of left ≡ Err bad → WroteFront (K.written sink.old) (K.written sink.new) (bad_line_text bad.line (name_of bad.cause)) }

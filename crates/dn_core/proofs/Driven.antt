@@ -50,7 +50,7 @@ kept_on m k stamp words l rs More c v h = record { sound = h.sound; on = record 
 kept_on m k stamp words l rs (Done answer) c v h = answers_on m k stamp words l rs answer c v h
 
 -- ---- one action of a call that goes on, and the turn after it
-driven : (words now : List ℕ) (l : LaneState) (k : Work) (stamp : ℕ) (rs : List Receipt) (action : Action) (word : ℕ) → GoesOn k stamp words l rs
+pub driven : (words now : List ℕ) (l : LaneState) (k : Work) (stamp : ℕ) (rs : List Receipt) (action : Action) (word : ℕ) → GoesOn k stamp words l rs
     → next_of l ≡ Some action → Performs action word words now → IsKept k stamp now (taken_of l word).lane rs (taken_of l word).turn
 driven words now l k stamp rs action word g n p =
     let P : ℕ → Type 0 = λ t. IsKept g.on.now t now (taken_of l word).lane rs (taken_of l word).turn in

@@ -21,7 +21,7 @@ formatted words segments lane size = record {
   others = λ at other region. word_at-set_other words 0 at _ other;
 }
 
-past : (at slot : ℕ) → slot < 64 → (at < 192) ⊎ (256 ≤ at) → at ≢ deed_at slot
+pub past : (at slot : ℕ) → slot < 64 → (at < 192) ⊎ (256 ≤ at) → at ≢ deed_at slot
 past at slot lt (inl low) e = absurd (omega (arith, low, e))
 past at slot lt (inr high) e = absurd (omega (arith, high, e, lt))
 

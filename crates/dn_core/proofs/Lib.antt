@@ -27,12 +27,15 @@ pub mod SealStanding
 pub mod Sealing
 pub mod Kept
 pub mod Driven
+pub mod CutOff
 pub mod Begins
 pub mod Granting
 pub mod Opened
+pub mod EmptyPool
 pub mod History
 pub mod GateStored
 pub mod Positions
 pub mod GateRaised
 pub mod ReadMade
 pub mod Rooms
+pub mod ResultLemmas

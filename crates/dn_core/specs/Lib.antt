@@ -6,5 +6,6 @@ pub mod Placing
 pub mod Found
 pub mod Calling
 pub mod Sound
+pub mod CutOff
 pub mod Opened
 pub mod Image

@@ -1,6 +1,11 @@
 //! The opening of a pool.
 
 ghost use Rattle.std.specs.Prelude.{◌≡◌, ◌<◌, ◌≤◌, ◌*◌, ◌+◌, length, OnOk, OnErr};
+ghost use Rattle.std.specs.FinMap.{empty};
+ghost use Rattle.dn_act.specs.Words.{IsZeros};
+ghost use Rattle.dn_model.specs.PoolMap.{HoldsMap};
+ghost use Rattle.dn_model.specs.Regions.{deed_at as deed_place};
+ghost use Rattle.dn_core.specs.CutOff.{IsSameBut};
 ghost use Rattle.dn_core.specs.Opened.{IsOpened, IsGranted};
 
 use dn_act::{Action, Failed, Memory, exec};
@@ -13,6 +18,7 @@ fn grant<M: Memory>(mem: &mut M, slot: u8, lane: u8) -> Result<(), Failed>
     requires lane { lane < 64 }
     requires size { 98304 ≤ length (M.words mem.old) }
     ensures granted { OnOk result (IsGranted (M.words mem.old) (M.words mem.new) slot lane) }
+    ensures cut_off { OnErr result (IsSameBut (deed_place slot) (M.words mem.old) (M.words mem.new)) }
     ensures size { length (M.words mem.new) ≡ length (M.words mem.old) }
     ensures no_fault { OnOk result (M.faults mem.new ≡ M.faults mem.old) }
     ensures cause { OnErr result (M.faults mem.old < M.faults mem.new) }
@@ -38,12 +44,14 @@ fn grant<M: Memory>(mem: &mut M, slot: u8, lane: u8) -> Result<(), Failed>
 }
 
 /// Stores the format word of a pool of so many segments, and grants all slots to the lane: each deed is the lane's in epoch 1,
-/// with a floor of 0. All other words stay. A `Failed` access raised the memory's count of faults.
+/// with a floor of 0. All other words stay. A `Failed` access raised the memory's count of faults, and a pool of zeros then holds
+/// the empty map still.
 pub fn open<M: Memory>(mem: &mut M, segments: u32, lane: u8) -> Result<(), Failed>
     requires size { 98304 ≤ length (M.words mem.old) }
     requires segments { segments ≤ 8192 }
     requires lane { lane < 64 }
     ensures opened { OnOk result (IsOpened (M.words mem.old) (M.words mem.new) segments lane) }
+    ensures cut_off { OnErr result (IsZeros (M.words mem.old) → HoldsMap (M.words mem.new) empty) }
     ensures size { length (M.words mem.new) ≡ length (M.words mem.old) }
     ensures no_fault { OnOk result (M.faults mem.new ≡ M.faults mem.old) }
     ensures cause { OnErr result (M.faults mem.old < M.faults mem.new) }

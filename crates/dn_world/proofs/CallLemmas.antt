@@ -34,17 +34,17 @@ use Rattle.dn_world.proofs.ToldLemmas.{told_made, told_full, order_push}
 
 -- ---- the call that begins
 -- the work of a call that begins
-abbrev first_work : SessionView → Call → Work
+abbrev pub first_work : SessionView → Call → Work
 first_work view call = record { call = call; view = view; room = []; place = at.Look }
 
-abbrev view_of : ℕ → ℕ → Position → SessionView
+abbrev pub view_of : ℕ → ℕ → Position → SessionView
 view_of session number last = record { session = session; number = number; last = last; hint = None }
 
 -- the gate of its lane has the stamp of the session's last position
-stamp_is : (words : List ℕ) (w : WorldState) (ended : List Ended) → IsWorld words w ended → (gate words w.lane.log.lane).stamp ≡ w.last.stamp
+pub stamp_is : (words : List ℕ) (w : WorldState) (ended : List Ended) → IsWorld words w ended → (gate words w.lane.log.lane).stamp ≡ w.last.stamp
 stamp_is words w ended h = ap (λ n. (gate words n).stamp) h.number ∙ h.stamp
 
-call_begun : (words : List ℕ) (w : WorldState) (ended : List Ended) (call : Call) (session : ℕ) → IsWorld words w ended → IsCall call → length ended < 2 ^ 31 - 1
+pub call_begun : (words : List ℕ) (w : WorldState) (ended : List Ended) (call : Call) (session : ℕ) → IsWorld words w ended → IsCall call → length ended < 2 ^ 31 - 1
     → IsSound words (begun w.lane (view_of session (length ended + 1) w.last) call) (receipts_of ended)
 call_begun words w ended call session h fits few =
     begun_sound words w.lane (receipts_of ended) (view_of session (length ended + 1) w.last) call h.sound h.idle fits
@@ -52,7 +52,7 @@ call_begun words w ended call session h fits few =
 
 -- ---- how it ends
 -- the call of the session with this number, that was made
-abbrev made_call : ℕ → Call → Receipt → Way → Ended
+abbrev pub made_call : ℕ → Call → Receipt → Way → Ended
 made_call number call receipt way = record { session = 1; number = number; call = call; end = Made receipt way }
 
 abbrev full_call : ℕ → Call → ℕ → ℕ → Ended
@@ -63,7 +63,7 @@ abbrev ran : WorldState → LaneState → Counts → WorldState
 ran w l c = record { lane = l; last = w.last; counts = c; history = w.history }
 
 -- a made call's end rests on the calls before it
-made_ends : (words now : List ℕ) (w : WorldState) (l : LaneState) (ended : List Ended) (number : ℕ) (call : Call) (receipt : Receipt) (way : Way) (stamp : ℕ)
+pub made_ends : (words now : List ℕ) (w : WorldState) (l : LaneState) (ended : List Ended) (number : ℕ) (call : Call) (receipt : Receipt) (way : Way) (stamp : ℕ)
     → l.log.lane ≡ 1 → l.log.pool ≡ w.lane.log.pool → IsMade (first_work (view_of 1 number w.last) call) stamp now l (receipts_of ended) receipt way
     → EndsBy w.lane.log.pool (receipts_of ended) call (Made receipt way)
 made_ends words now w l ended number call receipt way stamp lane pool a =
@@ -75,7 +75,7 @@ made_ends words now w l ended number call receipt way stamp lane pool a =
     (subst Q pool (subst P more whole), a.way_is, a.receipt_is.at ∙ ap (λ n. sealed_at n (len_from 0 (receipts_of ended)) call) lane)
 
 -- it stands behind the session's last one
-made_stands : (now : List ℕ) (w : WorldState) (l : LaneState) (rs : List Receipt) (number : ℕ) (call : Call) (receipt : Receipt) (way : Way) (stamp : ℕ)
+pub made_stands : (now : List ℕ) (w : WorldState) (l : LaneState) (rs : List Receipt) (number : ℕ) (call : Call) (receipt : Receipt) (way : Way) (stamp : ℕ)
     → stamp ≡ w.last.stamp → w.last.session ≡ 1 → IsMade (first_work (view_of 1 number w.last) call) stamp now l rs receipt way → IsNext w.last receipt
 made_stands now w l rs number call receipt way stamp is session a =
     let P : ℕ → ℕ → Call → Type 0 = λ s t c. position_of c (record { floor = 0; last = w.last; session = s }) t ≡ Some receipt.position in

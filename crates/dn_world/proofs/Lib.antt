@@ -5,7 +5,8 @@ mod FinishLemmas
 mod OneOrder
 mod OpenLemmas
 mod OutputLaw
-mod ResultLemmas
+pub mod ResultLemmas
 pub mod RunLemmas
 mod SameRuns
+pub mod StopLemmas
 mod ToldLemmas

@@ -1,5 +1,6 @@
 use Rattle.std.proofs.Common.{◌≡◌, false, Result, Ok, Err}
 use Rattle.std.specs.Result.{OnOk, is_err}
+pub use Rattle.dn_core.proofs.ResultLemmas.{so_on_err}
 
 -- what is so where there is no error
 pub no_err : {E P : Type 0} (r : Result (Unit {0}) E) → is_err r ≡ false → OnOk r P → P

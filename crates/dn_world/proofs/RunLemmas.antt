@@ -24,19 +24,19 @@ use Rattle.dn_world.specs.World.{IsWorld, Calls, IsCalled}
 use Rattle.dn_world.specs.declared.counts.Counts.{Counts}
 
 -- a call that a line can ask for is one that a record can have
-is_call : (call : CallOf) → IsAskable call → IsCall call
+pub is_call : (call : CallOf) → IsAskable call → IsCall call
 is_call (Get key) h = h
 is_call (Put key value) h = (h.0, record { is_short = h.1.short; are_bytes = h.1.bytes })
 is_call (Delete key) h = h
 
 -- ---- the calls of the lines so far
-called_length : (n : ℕ) (lines : List Line) (es : List Ended) → AreCalled n lines es → length es ≡ length lines
+pub called_length : (n : ℕ) (lines : List Line) (es : List Ended) → AreCalled n lines es → length es ≡ length lines
 called_length n [] [] h = refl
 called_length n [] (e ∷ es) h = absurd h
 called_length n (line ∷ lines) [] h = absurd h
 called_length n (Call session call ∷ lines) (e ∷ es) h = omega (arith, called_length (n + 1) lines es h.3)
 
-called_push : (n : ℕ) (lines : List Line) (es : List Ended) (session : ℕ) (call : CallOf) (e : Ended) → AreCalled n lines es → e.session ≡ session → e.number ≡ n + length es
+pub called_push : (n : ℕ) (lines : List Line) (es : List Ended) (session : ℕ) (call : CallOf) (e : Ended) → AreCalled n lines es → e.session ≡ session → e.number ≡ n + length es
     → e.call ≡ call → AreCalled n (lines ++ Call session call ∷ []) (es ++ e ∷ [])
 called_push n [] [] session call e h s k c = (s, omega (arith, k), c, tt)
 called_push n [] (x ∷ es) session call e h s k c = absurd h
@@ -71,7 +71,7 @@ play_goes_on lines i session call words now w v out new lt at fits few p calls =
       printed = c.printed ∙ ap (λ t. t ++ end_text c.how.session c.how.number c.how.end) p.printed ∙ sym (events_push p.ended c.how);
     }
 
-line_fits : (lines : List Line) (i : ℕ) (line : Line) → i < length lines → line ≡ get_or lines i line → All IsLine lines → IsLine line
+pub line_fits : (lines : List Line) (i : ℕ) (line : Line) → i < length lines → line ≡ get_or lines i line → All IsLine lines → IsLine line
 line_fits lines i line lt at all = subst IsLine (sym at) (all i line lt)
 
 play_line : (lines : List Line) (i : ℕ) (line : Line) (words now : List ℕ) (w v : WorldState) (out new : List ℕ) → i < length lines

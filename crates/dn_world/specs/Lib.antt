@@ -6,4 +6,5 @@ pub mod Playing
 pub mod Rest
 pub mod Run
 pub mod State
+pub mod Stopped
 pub mod World

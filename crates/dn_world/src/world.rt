@@ -1,11 +1,14 @@
 //! A play's world.
 
-ghost use Rattle.std.specs.Prelude.{◌≡◌, ◌<◌, ◌≤◌, ◌+◌, ◌*◌, ◌^◌, ◌++◌, [], length, None, IfOk, IfErr, OnOk, IsErrOf};
+ghost use Rattle.std.specs.FinMap.{empty};
+ghost use Rattle.std.specs.Prelude.{◌≡◌, ◌<◌, ◌≤◌, ◌+◌, ◌*◌, ◌^◌, ◌++◌, [], length, None, IfOk, IfErr, OnOk, OnErr, IsErrOf};
 ghost use Rattle.dn_act.specs.Words.{IsZeros};
 ghost use Rattle.dn_lane.specs.Stamps.{AnswerFits};
+ghost use Rattle.dn_model.specs.PoolMap.{HoldsMap};
 ghost use Rattle.dn_print.specs.CallLine.{made_text, event_text};
 ghost use Rattle.dn_world.specs.Rest.{PrintsRest};
 ghost use Rattle.dn_world.specs.State.{keeping, giving_up};
+ghost use Rattle.dn_world.specs.Stopped.{Stops};
 ghost use Rattle.dn_world.specs.World.{IsWorld, Calls, Answered};
 
 use crate::counts::Counts;
@@ -73,7 +76,7 @@ impl Model for World {
 
 impl World {
     /// Opens a pool of so many segments, all of whose words are 0, for one lane, and makes room for the receipts of so
-    /// many calls.
+    /// many calls. Where it stops, the pool still holds the empty map.
     pub fn open<M: Memory>(
         alloc: Global,
         mem: &mut M,
@@ -82,6 +85,7 @@ impl World {
     ) -> Result<World, Stop>
         requires segments { segments ≤ 8192 }
         requires size { 98304 + 1024 * segments ≤ length (M.words mem.old) }
+        ensures stopped { OnErr result (IsZeros (M.words mem.old) → HoldsMap (M.words mem.new) empty) }
         ensures world { IfOk result (λ world. IsZeros (M.words mem.old) → IsWorld (M.words mem.new) world []) }
         ensures pool { IfOk result (λ world. world.lane.log.pool ≡ segments) }
         ensures idle { IfOk result (λ world. world.lane.work ≡ None) }
@@ -120,7 +124,8 @@ impl World {
     }
 
     /// Runs a call of the session to its answer, and appends its event lines. From a sound world the call is made or given up,
-    /// and it is the world with one more call that has ended.
+    /// and it is the world with one more call that has ended. Where it stops, the pool holds what the calls before it leave, or
+    /// what they and it leave.
     pub fn call<M: Memory>(
         &mut self,
         mem: &mut M,
@@ -131,6 +136,7 @@ impl World {
         requires size { 98304 + 1024 * self.old.lane.log.pool ≤ length (M.words mem.old) }
         requires idle { self.old.lane.work ≡ None }
         ensures calls { OnOk result (Calls (M.words mem.old) self.old session call.now out.old.items (M.words mem.new) self.new out.new.items) }
+        ensures stopped { OnErr result (Stops (M.words mem.old) self.old session call.now (M.words mem.new)) }
         ensures idle { OnOk result (self.new.lane.work ≡ None) }
         ensures pool { self.new.lane.log.pool ≡ self.old.lane.log.pool }
         ensures size { length (M.words mem.new) ≡ length (M.words mem.old) }
@@ -258,11 +264,12 @@ impl World {
         }
     }
 
-    /// Loads the lane's gate and mark, and appends the history in order of position, and the summary. The words stay.
+    /// Loads the lane's gate and mark, and appends the history in order of position, and the summary. The words stay, also where
+    /// it stops.
     pub fn finish<M: Memory>(&mut self, mem: &mut M, out: &mut Vec<u8>) -> Result<(), Stop>
         requires { 98304 ≤ length (M.words mem.old) }
         ensures rest { OnOk result (PrintsRest self.old (M.words mem.old) out.old.items out.new.items) }
-        ensures words { OnOk result (M.words mem.new ≡ M.words mem.old) }
+        ensures words { M.words mem.new ≡ M.words mem.old }
         ensures size { length (M.words mem.new) ≡ length (M.words mem.old) }
         ensures no_fault { OnOk result (M.faults mem.new ≡ M.faults mem.old) }
         ensures want { IsErrOf result Stop.OutOfMemory → M.faults mem.new ≡ M.faults mem.old }

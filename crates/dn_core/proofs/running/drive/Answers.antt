@@ -1,5 +1,7 @@
 use Rattle.std.proofs.Common.{rules, sym, ◌∙◌}
+use Rattle.dn_core.proofs.CutOff.{cut_off}
 use Rattle.dn_core.proofs.Driven.{driven_done, driven_on, exact_done, exact_on}
+use Rattle.dn_core.proofs.ResultLemmas.{so_on_err}
 use Rattle.dn_core.proofs.running.drive.Goals as goal
 
 pub returns-in-Done-clause-answer : goal.returns-in-Done-clause-answer
@@ -28,3 +30,8 @@ loop-action-preserved g c = record {
   size = search rules;
   faults = search rules;
 }
+
+pub returns-in_err-word-clause-cut_off : goal.returns-in_err-word-clause-cut_off
+returns-in_err-word-clause-cut_off g c = so_on_err c.from_residual.result (λ receipts k s w.
+    cut_off _ _ c.loop-action.lane k _ receipts _ c.in-Some.action (c.loop-action.invariant.goes_on receipts k s w) c.loop-action.invariant.pool
+    (sym c.next.ensures.value ∙ c.in-Some.is) c.in_err-word.ensures.failed)
