@@ -69,12 +69,15 @@ abbrev pub Calls : List ℕ → WorldState → ℕ → Call → List ℕ → Lis
 Calls words w session call old now v new =
     (ended : List Ended) → IsWorld words w ended → IsCall call → session ≡ 1 → length ended < 2 ^ 31 - 1 → IsCalled now v ended call old new
 
--- the answers that a single lane gives, as they are kept and printed
+-- an answer as it is kept and printed
 abbrev pub Answered : WorldState → ℕ → ℕ → Answer → List ℕ → WorldState → List ℕ → Type 0
 Answered w session number (Made receipt way) old v new =
     (v ≡ keeping w receipt way) × (new ≡ old ++ made_text receipt.position.session receipt.number receipt.reply receipt.position)
 Answered w session number (Full counter segments) old v new =
     (v ≡ giving_up w) × (new ≡ old ++ (event_text (event.Full session number counter segments) ++ event_text (event.Given session number)))
-Answered w session number (NotOwner look cell) old v new = Unit {0}
-Answered w session number (Fenced word) old v new = Unit {0}
-Answered w session number (Worn stamp) old v new = Unit {0}
+Answered w session number (NotOwner look cell) old v new =
+    (v ≡ giving_up w) × (new ≡ old ++ (event_text (event.NotOwner session number look cell) ++ event_text (event.Given session number)))
+Answered w session number (Fenced word) old v new =
+    (v ≡ giving_up w) × (new ≡ old ++ (event_text (event.Fenced session number word) ++ event_text (event.Given session number)))
+Answered w session number (Worn stamp) old v new =
+    (v ≡ giving_up w) × (new ≡ old ++ (event_text (event.Worn session number stamp) ++ event_text (event.Given session number)))
