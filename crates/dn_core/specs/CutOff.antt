@@ -12,10 +12,12 @@ use Rattle.dn_core.specs.Sound.{IsKept}
 pub record IsSameBut (at : ℕ) (words now : List ℕ) : Type 0 where
   pub others : (i : ℕ) → i ≢ at → word_at now i ≡ word_at words i
 
--- A call that found the gate at this stamp was cut off. Either it stands where it stood before the action, or where a lane of this
--- pool stands that has taken the action's word: the words are sound with the receipts of before, or with the call's own behind them.
-pub record IsCutOff (k : Work) (stamp : ℕ) (words : List ℕ) (pool : ℕ) (receipts : List Receipt) : Type 0 where
+-- A call that found the gate at this stamp was cut off. Either it stands where it stood before the action, or where the lane of
+-- this pool and number stands that has taken the action's word: the words are sound with the receipts of before, or with the
+-- call's own behind them.
+pub record IsCutOff (k : Work) (stamp : ℕ) (words : List ℕ) (pool number : ℕ) (receipts : List Receipt) : Type 0 where
   pub lane : LaneState
   pub turn : Turn
   pub pool_is : lane.log.pool ≡ pool
+  pub number_is : lane.log.lane ≡ number
   pub kept : IsKept k stamp words lane receipts turn

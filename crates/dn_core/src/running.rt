@@ -24,7 +24,7 @@ pub fn drive<M: Memory>(lane: &mut Lane, mem: &mut M) -> Result<Answer, Failed>
     requires size { 98304 + 1024 * lane.old.log.pool ≤ length (M.words mem.old) }
     ensures answer { IfOk result (λ answer. (receipts : List Receipt) (k : Work) → IsSound (M.words mem.old) lane.old receipts → lane.old.work ≡ Some k → Answers k (gate (M.words mem.old) lane.old.log.lane).stamp (M.words mem.new) lane.new receipts answer) }
     ensures exact { IfOk result (λ answer. (receipts : List Receipt) (k : Work) → IsSound (M.words mem.old) lane.old receipts → lane.old.work ≡ Some k → IsExact (M.words mem.old) lane.old.log.lane receipts (brought lane.old.work (len_from 0 receipts)) → ExactBy (M.words mem.new) lane.old.log.lane receipts answer) }
-    ensures cut_off { OnErr result ((receipts : List Receipt) (k : Work) → IsSound (M.words mem.old) lane.old receipts → lane.old.work ≡ Some k → IsCutOff k (gate (M.words mem.old) lane.old.log.lane).stamp (M.words mem.new) lane.old.log.pool receipts) }
+    ensures cut_off { OnErr result ((receipts : List Receipt) (k : Work) → IsSound (M.words mem.old) lane.old receipts → lane.old.work ≡ Some k → IsCutOff k (gate (M.words mem.old) lane.old.log.lane).stamp (M.words mem.new) lane.old.log.pool lane.old.log.lane receipts) }
     ensures stamp { IfOk result AnswerFits }
     ensures idle { OnOk result (lane.new.work ≡ None) }
     ensures number { lane.new.log.lane ≡ lane.old.log.lane }

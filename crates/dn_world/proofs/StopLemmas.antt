@@ -83,9 +83,9 @@ still_left words now w ended h same = subst (λ ws. IsLeft w.lane.log.pool ws en
 
 -- and one call more that was made
 made_left : (words now : List ℕ) (w : WorldState) (l : LaneState) (ended : List Ended) (call : CallOf) (receipt : Receipt) (way : Way) (stamp : ℕ) → IsWorld words w ended
-    → l.log.pool ≡ w.lane.log.pool → stamp ≡ w.last.stamp → IsMade (first_work (view_of 1 (length ended + 1) w.last) call) stamp now l (receipts_of ended) receipt way
+    → l.log.lane ≡ 1 → l.log.pool ≡ w.lane.log.pool → stamp ≡ w.last.stamp → IsMade (first_work (view_of 1 (length ended + 1) w.last) call) stamp now l (receipts_of ended) receipt way
     → IsLeftWith w.lane.log.pool now ended call
-made_left words now w l ended call receipt way stamp h pool is a =
+made_left words now w l ended call receipt way stamp h lane pool is a =
     let e : Ended = made_call (length ended + 1) call receipt way in
     let more : receipts_of ended ++ receipt ∷ [] ≡ receipts_of (ended ++ e ∷ []) = sym (receipts_push ended e) in
     let next : IsNext (last_position (first_of 1) (receipts_of ended)) receipt =
@@ -97,30 +97,30 @@ made_left words now w l ended call receipt way stamp h pool is a =
       of = refl;
       left = left_by now l w.lane.log.pool (ended ++ e ∷ []) (subst (IsSound now l) more a.sound)
           (All-push HasItsReceipt ended e h.own (a.receipt_is.call, a.receipt_is.number, a.receipt_is.session))
-          (ended_push w.lane.log.pool [] ended e h.ends (made_ends words now w l ended (length ended + 1) call receipt way stamp pool a))
+          (ended_push w.lane.log.pool [] ended e h.ends (made_ends words now w l ended (length ended + 1) call receipt way stamp lane pool a))
           (subst (ArePlaced (first_of 1)) more (placed_push (first_of 1) (receipts_of ended) receipt h.stand next))
           (subst IsInCallersOrder more (order_push (receipts_of ended) receipt (length ended) w.last h.rises h.told a.receipt_is.number a.receipt_is.later));
     }
 
 -- ---- a call that was stopped
-answer_left : (words now : List ℕ) (w : WorldState) (l : LaneState) (ended : List Ended) (call : CallOf) (stamp : ℕ) (a : Answer) → IsWorld words w ended → l.log.pool ≡ w.lane.log.pool
+answer_left : (words now : List ℕ) (w : WorldState) (l : LaneState) (ended : List Ended) (call : CallOf) (stamp : ℕ) (a : Answer) → IsWorld words w ended → l.log.lane ≡ 1 → l.log.pool ≡ w.lane.log.pool
     → stamp ≡ w.last.stamp → Answers (first_work (view_of 1 (length ended + 1) w.last) call) stamp now l (receipts_of ended) a
     → IsLeft w.lane.log.pool now ended ⊎ IsLeftWith w.lane.log.pool now ended call
-answer_left words now w l ended call stamp (answer.Made receipt way) h pool is a = inr (made_left words now w l ended call receipt way stamp h pool is a)
-answer_left words now w l ended call stamp (answer.Full counter segments) h pool is a = inl (world_left words now w l ended h a.sound)
-answer_left words now w l ended call stamp (answer.NotOwner look cell) h pool is a = absurd a
-answer_left words now w l ended call stamp (answer.Fenced word) h pool is a = absurd a
-answer_left words now w l ended call stamp (answer.Worn last) h pool is a = absurd a
+answer_left words now w l ended call stamp (answer.Made receipt way) h lane pool is a = inr (made_left words now w l ended call receipt way stamp h lane pool is a)
+answer_left words now w l ended call stamp (answer.Full counter segments) h lane pool is a = inl (world_left words now w l ended h a.sound)
+answer_left words now w l ended call stamp (answer.NotOwner look cell) h lane pool is a = absurd a
+answer_left words now w l ended call stamp (answer.Fenced word) h lane pool is a = absurd a
+answer_left words now w l ended call stamp (answer.Worn last) h lane pool is a = absurd a
 
-turn_left : (words now : List ℕ) (w : WorldState) (l : LaneState) (ended : List Ended) (call : CallOf) (stamp : ℕ) (turn : Turn) → IsWorld words w ended → l.log.pool ≡ w.lane.log.pool
+turn_left : (words now : List ℕ) (w : WorldState) (l : LaneState) (ended : List Ended) (call : CallOf) (stamp : ℕ) (turn : Turn) → IsWorld words w ended → l.log.lane ≡ 1 → l.log.pool ≡ w.lane.log.pool
     → stamp ≡ w.last.stamp → IsKept (first_work (view_of 1 (length ended + 1) w.last) call) stamp now l (receipts_of ended) turn
     → IsLeft w.lane.log.pool now ended ⊎ IsLeftWith w.lane.log.pool now ended call
-turn_left words now w l ended call stamp More h pool is k = inl (world_left words now w l ended h k.sound)
-turn_left words now w l ended call stamp (Done a) h pool is k = answer_left words now w l ended call stamp a h pool is k
+turn_left words now w l ended call stamp More h lane pool is k = inl (world_left words now w l ended h k.sound)
+turn_left words now w l ended call stamp (Done a) h lane pool is k = answer_left words now w l ended call stamp a h lane pool is k
 
-cut_left : (words now : List ℕ) (w : WorldState) (ended : List Ended) (call : CallOf) (stamp pool : ℕ) → IsWorld words w ended → pool ≡ w.lane.log.pool → stamp ≡ w.last.stamp
-    → IsCutOff (first_work (view_of 1 (length ended + 1) w.last) call) stamp now pool (receipts_of ended) → IsLeft w.lane.log.pool now ended ⊎ IsLeftWith w.lane.log.pool now ended call
-cut_left words now w ended call stamp pool h e is c = turn_left words now w c.lane ended call stamp c.turn h (c.pool_is ∙ e) is c.kept
+cut_left : (words now : List ℕ) (w : WorldState) (ended : List Ended) (call : CallOf) (stamp pool number : ℕ) → IsWorld words w ended → number ≡ 1 → pool ≡ w.lane.log.pool → stamp ≡ w.last.stamp
+    → IsCutOff (first_work (view_of 1 (length ended + 1) w.last) call) stamp now pool number (receipts_of ended) → IsLeft w.lane.log.pool now ended ⊎ IsLeftWith w.lane.log.pool now ended call
+cut_left words now w ended call stamp pool number h n e is c = turn_left words now w c.lane ended call stamp c.turn h (c.number_is ∙ n) (c.pool_is ∙ e) is c.kept
 
 -- before it took an action
 pub stops_still : (words now : List ℕ) (w : WorldState) (session : ℕ) (call : CallOf) → now ≡ words → Stops words w session call now
@@ -129,7 +129,7 @@ stops_still words now w session call same ended h fits one few = inl (still_left
 -- in its course
 pub stops_within : (words now : List ℕ) (w : WorldState) (b : LaneState) (c : Counts) (session : ℕ) (call : CallOf) → c ≡ with_call w.counts
     → b ≡ begun w.lane (record { session = session; number = c.calls; last = w.last; hint = None }) call
-    → ((receipts : List Receipt) (k : Work) → IsSound words b receipts → b.work ≡ Some k → IsCutOff k (gate words b.log.lane).stamp now b.log.pool receipts)
+    → ((receipts : List Receipt) (k : Work) → IsSound words b receipts → b.work ≡ Some k → IsCutOff k (gate words b.log.lane).stamp now b.log.pool b.log.lane receipts)
     → Stops words w session call now
 stops_within words now w b c session call counts is cut ended h fits one few =
     let same : c ≡ with_call (counts_of ended) = counts ∙ ap with_call h.counts in
@@ -137,16 +137,16 @@ stops_within words now w b c session call counts is cut ended h fits one few =
     let begins : b ≡ begun w.lane (view_of 1 (length ended + 1) w.last) call = is ∙ ap (λ s. begun w.lane (view_of s c.calls w.last) call) one ∙ ap (λ n. begun w.lane (view_of 1 n w.last) call) number in
     let sound : IsSound words b (receipts_of ended) = subst (λ x. IsSound words x (receipts_of ended)) (sym begins) (call_begun words w ended call 1 h fits few) in
     let stamp : (gate words b.log.lane).stamp ≡ w.last.stamp = ap (λ (x : LaneState). (gate words x.log.lane).stamp) begins ∙ stamp_is words w ended h in
-    cut_left words now w ended call (gate words b.log.lane).stamp b.log.pool h (ap (λ (x : LaneState). x.log.pool) begins) stamp
+    cut_left words now w ended call (gate words b.log.lane).stamp b.log.pool b.log.lane h (ap (λ (x : LaneState). x.log.lane) begins ∙ h.number) (ap (λ (x : LaneState). x.log.pool) begins) stamp
     (cut (receipts_of ended) (first_work (view_of 1 (length ended + 1) w.last) call) sound (ap (λ (x : LaneState). x.work) begins))
 
 -- or once it was answered
 pub stops_answered : (words now : List ℕ) (w : WorldState) (b l : LaneState) (c : Counts) (session : ℕ) (call : CallOf) (a : Answer) → c ≡ with_call w.counts
     → b ≡ begun w.lane (record { session = session; number = c.calls; last = w.last; hint = None }) call
-    → ((receipts : List Receipt) (k : Work) → IsSound words b receipts → b.work ≡ Some k → Answers k (gate words b.log.lane).stamp now l receipts a) → l.log.pool ≡ b.log.pool
+    → ((receipts : List Receipt) (k : Work) → IsSound words b receipts → b.work ≡ Some k → Answers k (gate words b.log.lane).stamp now l receipts a) → l.log.lane ≡ b.log.lane → l.log.pool ≡ b.log.pool
     → Stops words w session call now
-stops_answered words now w b l c session call a counts is drives pool =
-    stops_within words now w b c session call counts is (λ receipts k s e. record { lane = l; turn = Done a; pool_is = pool; kept = drives receipts k s e })
+stops_answered words now w b l c session call a counts is drives lane pool =
+    stops_within words now w b c session call counts is (λ receipts k s e. record { lane = l; turn = Done a; pool_is = pool; number_is = lane; kept = drives receipts k s e })
 
 -- ---- a play that was stopped
 -- before its first call

@@ -33,5 +33,5 @@ loop-action-preserved g c = record {
 
 pub returns-in_err-word-clause-cut_off : goal.returns-in_err-word-clause-cut_off
 returns-in_err-word-clause-cut_off g c = so_on_err c.from_residual.result (λ receipts k s w.
-    cut_off _ _ c.loop-action.lane k _ receipts _ c.in-Some.action (c.loop-action.invariant.goes_on receipts k s w) c.loop-action.invariant.pool
+    cut_off _ _ c.loop-action.lane k _ receipts _ _ c.in-Some.action (c.loop-action.invariant.goes_on receipts k s w) c.loop-action.invariant.pool c.loop-action.invariant.number
     (sym c.next.ensures.value ∙ c.in-Some.is) c.in_err-word.ensures.failed)

@@ -27,7 +27,7 @@ returns-in-Ok-drive-clause-stopped g c =
     let now = g.M.Memory.words c.drive.new.mem in
     so_on_err c.answered-in-Ok-drive.result (subst (λ (w : WorldState). Stops words w c.args.session c.args.call.now now) c.self.view_is
     (stops_answered words now (state_of c.self.inside) c.begin.new.self c.drive.new.lane c.count_call.new.self c.args.session c.args.call.now c.in-Ok-drive.answer
-    c.count_call.ensures c.in-Ok.ensures.ok c.in-Ok-drive.ensures.answer c.in-Ok-drive.ensures.pool))
+    c.count_call.ensures c.in-Ok.ensures.ok c.in-Ok-drive.ensures.answer c.in-Ok-drive.ensures.number c.in-Ok-drive.ensures.pool))
 
 pub returns-in-Err-clause-stopped : goal.returns-in-Err-clause-stopped
 returns-in-Err-clause-stopped g c =
