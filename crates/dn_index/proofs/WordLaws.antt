@@ -3,7 +3,6 @@ use Rattle.std.proofs.lemmas.Nat.{same_from_place}
 use Rattle.std.proofs.lemmas.List.{set-get_or}
 use Rattle.dn_act.specs.declared.actions.Action.TheVariants.{Load}
 use Rattle.dn_act.specs.Action.{words_after}
-use Rattle.dn_act.specs.Words.{word_at}
 use Rattle.dn_act.proofs.Words.{word_at-set_same, word_at-set_other}
 use Rattle.dn_model.specs.Regions.{bucket, bucket_at}
 use Rattle.std.proofs.lemmas.Grind.{common_steps}
@@ -24,10 +23,6 @@ bucket-same words b i v lb li l = word_at-set_same words (bucket_at b i) v (omeg
 -- the overflow counter is no word of a bucket
 pub bucket-counter : (words : List ℕ) (c j v : ℕ) → bucket (slice_set words 3 v) c j ≡ bucket words c j
 bucket-counter words c j v = word_at-set_other words 3 (bucket_at c j) v (λ e. absurd (omega arith))
-
--- and no word of a bucket is the counter
-pub counter-other : (words : List ℕ) (b i v : ℕ) → word_at (with_word words b i v) 3 ≡ word_at words 3
-counter-other words b i v = word_at-set_other words (bucket_at b i) 3 v (λ e. absurd (omega arith))
 
 -- a load leaves the words
 pub load_keeps : (words : List ℕ) (at : ℕ) → words_after (Load at) words ≡ words

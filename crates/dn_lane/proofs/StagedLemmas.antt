@@ -1,4 +1,4 @@
-use Rattle.std.proofs.Common.{◌≡◌, ◌<◌, ◌+◌, ℕ, suc, List, [], ◌∷◌, ◌++◌, length, take, get_or, refl, ap, sym, ◌∙◌, arith, append_assoc, add-zero}
+use Rattle.std.proofs.Common.{◌≡◌, ◌<◌, ◌+◌, ℕ, suc, List, [], ◌∷◌, ◌++◌, length, take, get_or, ap, sym, ◌∙◌, arith, append_assoc, add-zero}
 use Rattle.std.proofs.lemmas.List.{take_more, length-take-le}
 use Rattle.dn_log.specs.Log.{Log, word_of}
 use Rattle.dn_log.specs.declared.staging.Staged.{Staged}
@@ -12,10 +12,6 @@ placed-push log at (x ∷ xs) w = ap (λ t. (let s : Staged = record { at = word
   where
     next : (a n : ℕ) → a + 1 + n ≡ a + suc n
     next a n = omega arith
-
-pub length-placed : (log : Log) (at : ℕ) (xs : List ℕ) → length (placed log at xs) ≡ length xs
-length-placed log at [] = refl
-length-placed log at (x ∷ xs) = ap suc (length-placed log (at + 1) xs)
 
 -- one more word is staged behind those before
 pub staged_more : (log : Log) (at i place : ℕ) (words : List ℕ) (old new start : List Staged) → i < length words → place ≡ word_of log (at + i)

@@ -1,9 +1,7 @@
-use Rattle.std.proofs.Common.{ℕ, ◌+◌, ◌*◌, ◌/◌, ◌%◌, ◌<◌, ◌≤◌, ◌≡◌, ◌++◌, [], List, length, slice_index, refl, arith, ap, Bool, true, false, None, nat_lt, if◌then◌else◌}
+use Rattle.std.proofs.Common.{ℕ, ◌+◌, ◌*◌, ◌/◌, ◌%◌, ◌<◌, ◌≤◌, ◌≡◌, length, slice_index, arith}
 use Rattle.std.proofs.lemmas.Nat.{same_from_place}
 use Rattle.std.proofs.lemmas.List.Elements.{All-get_or}
-use Rattle.std.proofs.lemmas.List.{append-nil}
-use Rattle.dn_log.specs.Log.{Log, reach_of, word_of, sealed_of, IsApart, IsFit}
-use Rattle.dn_log.specs.declared.plans.Plan.{Plan}
+use Rattle.dn_log.specs.Log.{Log, reach_of, word_of, IsApart, IsFit}
 
 -- the pool's word of an offset lies behind all other regions
 pub word_of-past : (log : Log) (offset : ℕ) → 98304 ≤ word_of log offset
@@ -30,17 +28,3 @@ pub word_of-apart : (log : Log) (a b : ℕ) → IsApart (reach_of log) → a < 1
 word_of-apart log a b apart i j e =
     let s : (slice_index (reach_of log) (a / 1024) ≡ slice_index (reach_of log) (b / 1024)) × (a % 1024 ≡ b % 1024) = same_word _ _ (a % 1024) (b % 1024) (omega arith) (omega arith) e in
     same_offset a b (apart.each (a / 1024) (b / 1024) (segment-within log a i) (segment-within log b j) s.0) s.1
-
-appended_none : (xs : List ℕ) → xs ++ [] ≡ xs
-appended_none xs = append-nil xs
-
-sealed-reach_by : (log : Log) (plan : Plan) (b : Bool) → reach_of (if b then record log { len = plan.len; segments = reach_of log; spare = None } else record log { len = plan.len }) ≡ reach_of log
-sealed-reach_by log plan true = appended_none (reach_of log)
-sealed-reach_by log plan false = refl
-
--- sealing a plan moves no offset to another word
-pub sealed-reach : (log : Log) (plan : Plan) → reach_of (sealed_of log plan) ≡ reach_of log
-sealed-reach log plan = sealed-reach_by log plan (nat_lt (1024 * length log.segments) plan.len)
-
-pub word_of-sealed : (log : Log) (plan : Plan) (offset : ℕ) → word_of (sealed_of log plan) offset ≡ word_of log offset
-word_of-sealed log plan offset = ap (λ segments. 98304 + (1024 * slice_index segments (offset / 1024) + offset % 1024)) (sealed-reach log plan)

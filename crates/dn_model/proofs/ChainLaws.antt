@@ -47,18 +47,12 @@ first_append : (k : ℕ) (xs ys : List Slot) → first_place k (xs ++ ys) ≡ or
 first_append k [] ys = refl
 first_append k (x ∷ xs) ys = ap (λ o. if nat_eq x.key k then Some x.place else o) (first_append k xs ys) ∙ sym (or_by x (nat_eq x.key k) (first_place k xs) (first_place k ys))
 
--- a bucket without the key is passed over, and one with it ends the search
-pub passed : (words : List ℕ) (b : ℕ) (bs : List ℕ) (k : ℕ) → first_place k (slots_of words b) ≡ None → first_place k (slots words (b ∷ bs)) ≡ first_place k (slots words bs)
-passed words b bs k e = first_append k (slots_of words b) (slots words bs) ∙ ap (λ o. or_else o (first_place k (slots words bs))) e
-
+-- a bucket with the key ends the search
 pub met : (words : List ℕ) (b : ℕ) (bs : List ℕ) (k p : ℕ) → first_place k (slots_of words b) ≡ Some p → first_place k (slots words (b ∷ bs)) ≡ Some p
 met words b bs k p e = first_append k (slots_of words b) (slots words bs) ∙ ap (λ o. or_else o (first_place k (slots words bs))) e
 
 next_dropped : (bs : List ℕ) (i b : ℕ) → i < length bs → b ≡ get_or bs i b → drop i bs ≡ b ∷ drop (i + 1) bs
 next_dropped bs i b lt e = grind (arith, common_steps, drop-cons)
-
-pub passed_at : (words bs : List ℕ) (i b k : ℕ) (p : Option ℕ) → p ≡ first_place k (slots words (drop i bs)) → i < length bs → b ≡ get_or bs i b → first_place k (slots_of words b) ≡ None → p ≡ first_place k (slots words (drop (i + 1) bs))
-passed_at words bs i b k p h lt e none = h ∙ ap (λ xs. first_place k (slots words xs)) (next_dropped bs i b lt e) ∙ passed words b (drop (i + 1) bs) k none
 
 pub met_at : (words bs : List ℕ) (i b k x : ℕ) (p : Option ℕ) → p ≡ first_place k (slots words (drop i bs)) → i < length bs → b ≡ get_or bs i b → first_place k (slots_of words b) ≡ Some x → p ≡ Some x
 met_at words bs i b k x p h lt e some = h ∙ ap (λ xs. first_place k (slots words xs)) (next_dropped bs i b lt e) ∙ met words b (drop (i + 1) bs) k x some

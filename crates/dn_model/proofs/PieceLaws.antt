@@ -80,15 +80,6 @@ front_spells w o r h p = record {
   fits = front_fits w o r (length-front w o (1024 - o % 1024) (spelling r) h.rest h.is_front) p;
 }
 
-pub fits_pad : (o : ℕ) (r : Record) → Fits o r → PadFits o r
-fits_pad o (Put key value) h = tt
-fits_pad o (Delete key) h = tt
-fits_pad o (Share key cell opening) h = tt
-fits_pad o (Unshare key at) h = tt
-fits_pad o (Loose key value) h = tt
-fits_pad o (LooseDelete key) h = tt
-fits_pad o (Pad words) h = h
-
 -- a record that fits ends in its own segment, or at its end
 pub fits_within : (o : ℕ) (r : Record) → Fits o r → o % 1024 + length_in_words r ≤ 1024
 fits_within o (Put key value) h = h

@@ -1,6 +1,6 @@
-use Rattle.std.proofs.Common.{ℕ, ◌≡◌, refl, sym, ◌∙◌, ap, subst}
+use Rattle.std.proofs.Common.{ℕ, ◌≡◌, sym, ◌∙◌, ap, subst}
 use Rattle.dn_act.specs.declared.actions.Action.{Action}
-use Rattle.dn_model.specs.Program.{Program, Return, Do, ◌>>=◌, Turn, Ends, Runs, lifted}
+use Rattle.dn_model.specs.Program.{Program, Return, Do, ◌>>=◌, Turn, Runs, lifted}
 
 -- An outer machine that does what an inner one does, and goes on by its answer, runs the one program and then the other.
 pub runs_then : {S T A B : Type 0} (next : S → Action) (take : S → ℕ → Turn S A) (outer_next : T → Action) (outer_take : T → ℕ → Turn T B) (embed : S → T) (cont : A → Turn T B)
@@ -19,11 +19,3 @@ runs_then {T = T} {B = B} next take outer_next outer_take embed cont en et (Do a
       let P : Turn T B → Type 0 = λ x. Runs outer_next outer_take (k word >>= rest) x in
       subst P (sym (et h.0 word)) (runs_then next take outer_next outer_take embed cont en et (k word) rest (take h.0 word) (h.3 word) g),
 )
-
--- the same where the inner program's answer is the outer one's
-pub runs_within : {S T A B : Type 0} (next : S → Action) (take : S → ℕ → Turn S A) (outer_next : T → Action) (outer_take : T → ℕ → Turn T B) (embed : S → T) (answers : A → B)
-    → ((s : S) → outer_next (embed s) ≡ next s) → ((s : S) (word : ℕ) → outer_take (embed s) word ≡ lifted embed (λ a. Ends (answers a)) (take s word))
-    → (p : Program A) (turn : Turn S A) → Runs next take p turn
-    → Runs outer_next outer_take (p >>= λ a. Return (answers a)) (lifted embed (λ a. Ends (answers a)) turn)
-runs_within next take outer_next outer_take embed answers en et p turn h =
-    runs_then next take outer_next outer_take embed (λ a. Ends (answers a)) en et p (λ a. Return (answers a)) turn h (λ a. refl)

@@ -106,7 +106,3 @@ register_write held now bound raised rs n h w top le here there = record {
         (leaves_past rs k (bound k) (raised k) (held k) (λ r c x. omega (arith, h.stamps r c, ap bound x)) (le k) (h.values k))))
   ];
 }
-
--- what was known of a read stays, whatever is written past the bound
-pub read_stays : (bound : ℕ → ℕ) (rs : List Receipt) (n : Receipt) (k t : ℕ) (v : Option (List ℕ)) → t ≤ bound k → (is_write n.call ≡ true → bound (key_of n.call) < n.position.stamp) → Leaves rs k t v → Leaves (rs ++ n ∷ []) k t v
-read_stays bound rs n k t v old past h = leaves_other rs n k t v (λ w. omega (arith, past w.write, ap bound w.key, w.upto, old)) h

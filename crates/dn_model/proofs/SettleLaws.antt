@@ -64,9 +64,6 @@ right_gone holds m n key is h pos = sym h ∙ ap Says (sym (ap (λ x. get x key)
 pub right_put : (holds : ℕ → Found (Option (List ℕ))) (m n : Bytes) (key : ℕ) (v : List ℕ) → n ≡ insert m key v → Says (Some v) ≡ holds key → IsRight holds n key
 right_put holds m n key v is h pos = sym h ∙ ap Says (sym (ap (λ x. get x key) is ∙ put_same m key v))
 
-pub towards_none : (holds : ℕ → Found (Option (List ℕ))) (m : Bytes) → Towards holds m m
-towards_none holds m = record { kept = λ k p h. h; changed = λ k p. inl refl; zero_kept = refl }
-
 pub towards_then : (holds : ℕ → Found (Option (List ℕ))) (a b c : Bytes) → Towards holds a b → Towards holds b c → Towards holds a c
 towards_then holds a b c h g = record {
   kept = λ k p e. g.kept k p (h.kept k p e);

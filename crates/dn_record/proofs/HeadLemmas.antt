@@ -1,4 +1,4 @@
-use Rattle.std.proofs.Common.{ℕ, ◌%◌, ◌^◌, ◌<◌, ◌≡◌, ◌&&◌, Bool, true, false, Option, Some, None, nat_eq, if◌then◌else◌, refl, sym, ◌∙◌, ap, subst, arith, rules}
+use Rattle.std.proofs.Common.{ℕ, ◌%◌, ◌^◌, ◌<◌, ◌≡◌, true, Some, refl, sym, ◌∙◌, ap, arith}
 use Rattle.std.proofs.lemmas.Grind.{common_steps}
 use Rattle.std.proofs.lemmas.Bool.Decides.{nat_tests}
 use Rattle.dn_word.specs.declared.packed.header.Header.{Header}
@@ -39,15 +39,6 @@ in_range (Loose bytes) h = grind (arith, nat_tests)
 in_range LooseDelete h = refl
 in_range (Pad words) h = grind (arith, nat_tests)
 
-of_range : (head : Head) → fits head ≡ true → IsHead head
-of_range (Put bytes) h = grind (arith, nat_tests)
-of_range Delete h = search rules
-of_range (Share cell) h = grind (arith, nat_tests)
-of_range Unshare h = search rules
-of_range (Loose bytes) h = grind (arith, nat_tests)
-of_range LooseDelete h = search rules
-of_range (Pad words) h = (grind (arith, nat_tests), grind (arith, nat_tests))
-
 kept_by : (w : ℕ) (head : Head) → fits head ≡ true → head_word head ≡ w → kept w (Some head) ≡ Some head
 kept_by w head f e = grind (arith, nat_tests)
 
@@ -56,16 +47,3 @@ pub head_spelled : (w : ℕ) (head : Head) → HeadIs w head → head_in w ≡ S
 head_spelled w head k =
     let e : header_of w ≡ header_for head = ap header_of (sym k.is_word) ∙ header_kept head k.is_head in
     ap (λ (h : Header). kept w (named h)) e ∙ ap (kept w) (named_again head k.is_head) ∙ kept_by w head (in_range head k.is_head) k.is_word
-
-only_by : (w : ℕ) (h head : Head) (b c : Bool) → fits h ≡ b → nat_eq (head_word h) w ≡ c → (if b && c then Some h else None) ≡ Some head → HeadIs w head
-only_by w h head true true f e s = let same : h ≡ head = cc in subst (λ (x : Head). HeadIs w x) same (record { is_head = of_range h f; is_word = grind (arith, nat_tests) })
-only_by w h head true false f e s = cc
-only_by w h head false c f e s = cc
-
-kept_only : (w : ℕ) (o : Option Head) (head : Head) → kept w o ≡ Some head → HeadIs w head
-kept_only w None head s = cc
-kept_only w (Some h) head s = only_by w h head (fits h) (nat_eq (head_word h) w) refl refl s
-
--- a word from which a head is read is its header
-pub head_only : (w : ℕ) (head : Head) → head_in w ≡ Some head → HeadIs w head
-head_only w head s = kept_only w (named (header_of w)) head s

@@ -1,13 +1,12 @@
-use Rattle.std.proofs.Common.{◌≡◌, ◌<◌, ◌+◌, ℕ, Bool, true, false, cond, codes, None, List, [], ◌∷◌, length, nat_eq, refl, ap, sym, ◌∙◌, arith, Result, Err}
+use Rattle.std.proofs.Common.{◌≡◌, ◌<◌, ◌+◌, ℕ, Bool, true, false, cond, codes, None, List, [], ◌∷◌, length, nat_eq, refl, ap, sym, ◌∙◌, arith, Result}
 use Rattle.std.proofs.lemmas.List.Splits.{length-slice_split}
 use Rattle.std.specs.List.{slice_split}
 use Rattle.std.specs.Cmp.Lexicographic.{pointwise}
 use Rattle.dn_script.specs.declared.scripts.Line.{Line}
-use Rattle.dn_script.specs.declared.faults.ParseFault.{ParseFault}
 use Rattle.dn_script.specs.declared.faults.ParseFault.TheVariants as fault
 use Rattle.dn_script.specs.Sentence.{get_of, put_of, verb_of, call_of, meaning_of}
-use Rattle.dn_script.specs.Script.{BadLine, meanings_of, lines_from, with_front, then_more, script_of}
-use Rattle.dn_script.specs.Fault.{IsParseFault, IsFaultOf, AddsLine}
+use Rattle.dn_script.specs.Script.{BadLine, meanings_of, lines_from, with_front, then_more}
+use Rattle.dn_script.specs.Fault.{AddsLine}
 
 some_parts : (p : ℕ → Bool) (xs : List ℕ) → 0 < length (slice_split p xs)
 some_parts p xs = omega (arith, length-slice_split p xs)
@@ -60,12 +59,3 @@ pub line_kept : (p : ℕ → Bool) (number : ℕ) (line xs rest : List ℕ) (old
     → with_front new (lines_from (number + 1) (meanings_of (slice_split p rest))) ≡ all
 line_kept p number line xs rest old new all e before added =
     sym (added (lines_from (number + 1) (meanings_of (slice_split p rest)))) ∙ sym (ap (with_front old) (ended p number line xs rest e)) ∙ before
-
--- a bad line is the script's first one
-pub line_fault : (p : ℕ → Bool) (number : ℕ) (line xs rest bytes : List ℕ) (old : List Line) (f : ParseFault) → slice_split p xs ≡ line ∷ slice_split p rest
-    → with_front old (lines_from number (meanings_of (slice_split p xs))) ≡ script_of bytes → IsFaultOf number (meaning_of line) f → IsParseFault bytes f
-line_fault p number line xs rest bytes old (fault.Bad n cause) e before bad =
-    sym before ∙ ap (with_front old) (ended p number line xs rest e)
-    ∙ ap (λ m. with_front old (then_more number m (lines_from (number + 1) (meanings_of (slice_split p rest))))) bad.1
-    ∙ ap (λ k. Err (record { line = k; cause = cause })) (sym bad.0)
-line_fault p number line xs rest bytes old fault.OutOfMemory e before bad = tt
