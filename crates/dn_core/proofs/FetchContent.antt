@@ -29,7 +29,8 @@ use Rattle.dn_core.specs.Standing.{IsStanding}
 use Rattle.dn_core.specs.Calling.{IsTimed, AtFetch}
 use Rattle.dn_core.specs.Found.{IsLoaded, IsFetching}
 use Rattle.dn_core.proofs.State.{running, Keeps, stamp_in}
-use Rattle.dn_core.proofs.FetchedWords.{IsNamed, fits_within, in_row, stands_at, value_whole}
+use Rattle.dn_model.proofs.PieceLaws.{fits_within}
+use Rattle.dn_core.proofs.FetchedWords.{IsNamed, in_row, stands_at, value_whole}
 use Rattle.dn_core.proofs.FetchSteps.{fetch_at, fetching, more_kept, ended_kept, in_pool, below, last_found, last_located, found_along, segment_of, stepped}
 
 -- A word behind the header of a put's record is taken: its key, or a word of its value.

@@ -40,7 +40,8 @@ use Rattle.dn_core.specs.Standing.{IsStanding}
 use Rattle.dn_core.specs.Calling.{IsTimed, AtFetch}
 use Rattle.dn_core.specs.Found.{IsFound, IsLocated, IsLast, IsFetching, way_by}
 use Rattle.dn_core.proofs.State.{call_at, running, Keeps, stamp_in}
-use Rattle.dn_core.proofs.FetchedWords.{IsNamed, named, fits_within, head_at, value_alone}
+use Rattle.dn_model.proofs.PieceLaws.{fits_within}
+use Rattle.dn_core.proofs.FetchedWords.{IsNamed, named, head_at, value_alone}
 
 -- A word of a fetch is taken: after the directory word the header is loaded, then the rest of a put's record, for a get.
 

@@ -1,18 +1,16 @@
-use Rattle.std.proofs.Common.{ℕ, zero, suc, ◌+◌, ◌*◌, ◌/◌, ◌%◌, ◌<◌, ◌≤◌, ◌≡◌, ◌==◌, ◌&&◌, Bool, true, false, List, [], ◌∷◌, length, take, drop, get_or, Option, Some, None, nat_le, if◌then◌else◌, refl, sym, ◌∙◌, ap, arith}
-use Rattle.std.proofs.lemmas.Bool.{false≢true}
+use Rattle.std.proofs.Common.{ℕ, zero, suc, ◌+◌, ◌*◌, ◌/◌, ◌%◌, ◌<◌, ◌≤◌, ◌≡◌, Bool, true, false, List, [], ◌∷◌, length, take, get_or, Option, Some, None, nat_le, if◌then◌else◌, refl, sym, ◌∙◌, ap, arith}
 use Rattle.std.proofs.lemmas.Bool.Decides.{nat_tests}
 use Rattle.dn_word.specs.Bytes.{bytes_of}
-use Rattle.dn_word.specs.Header.{header_of}
-use Rattle.dn_word.specs.declared.packed.header.Header.{Header}
 use Rattle.dn_record.specs.Values.{words_for, value_words}
-use Rattle.dn_record.specs.Head.{header_for, head_word}
+use Rattle.dn_record.specs.Head.{head_word}
 use Rattle.dn_record.specs.Grammar.{IsValue}
 use Rattle.dn_record.specs.Reading.{head_in}
 use Rattle.dn_record.specs.Record.{head_of, spelling}
-use Rattle.dn_record.specs.declared.heads.Head.TheVariants.{Put as PutHead}
+use Rattle.dn_record.specs.declared.heads.Head.{Head}
+use Rattle.dn_record.specs.declared.heads.Head.TheVariants as head
 use Rattle.dn_record.specs.declared.records.Record.{Record}
 use Rattle.dn_record.specs.declared.records.Record.TheVariants.{Put}
-use Rattle.dn_record.proofs.HeadLemmas.{header_kept, head_spelled}
+use Rattle.dn_record.proofs.HeadLemmas.{head_spelled}
 use Rattle.dn_record.proofs.SpelledLemmas.{is_head}
 use Rattle.dn_record.proofs.ValueLemmas.{length_words_from, value_again}
 use Rattle.dn_hist.specs.declared.receipts.Receipt.{Receipt}
@@ -20,8 +18,7 @@ use Rattle.dn_log.specs.Log.{Log, reach_of}
 use Rattle.dn_model.specs.declared.logs.Placed.{Placed}
 use Rattle.dn_model.specs.Regions.{directory, place}
 use Rattle.dn_model.specs.Log.{Stand, SpellsAt}
-pub use Rattle.dn_model.proofs.PieceLaws.{fits_within}
-use Rattle.dn_lane.specs.Taken.{value_in}
+use Rattle.dn_lane.specs.Taken.{value_in, value_behind}
 use Rattle.dn_lane.specs.declared.logged.Sealed.{Sealed}
 use Rattle.dn_core.specs.Standing.{IsStanding}
 
@@ -58,32 +55,32 @@ stands_at w o (x ∷ xs) (suc i) d h lt = let e : o + suc i ≡ o + 1 + i = omeg
 pub head_at : (w : ℕ → ℕ) (offset : ℕ) (r : Record) → SpellsAt w offset r → head_in (w offset) ≡ Some (head_of r)
 head_at w offset r h = head_spelled (w offset) (head_of r) (record { is_head = is_head r h.is_record; is_word = sym h.stands.0 })
 
--- a header and the words behind it have this value
-abbrev value_with : Header → List ℕ → Option (List ℕ)
-value_with h ws =
-    if (h.kind == 1) && (nat_le h.bytes 1024 && nat_le (h.bytes + 8) (8 * length ws))
-    then Some (take h.bytes (bytes_of (drop 1 ws))) else None
+-- a header alone has no value
+short : (bytes : ℕ) → nat_le (bytes + 8) (8 * 0) ≡ false
+short bytes = grind (arith, nat_tests)
 
--- a header alone has none
-alone_by : (h : Header) (b : Bool) → b ≡ false → (if b then Some (take h.bytes (bytes_of [])) else None) ≡ None
-alone_by h true e = absurd (false≢true (sym e))
-alone_by h false e = refl
-
-short : (kind bytes : ℕ) → ((kind == 1) && (nat_le bytes 1024 && nat_le (bytes + 8) (8 * 0))) ≡ false
-short kind bytes = grind (arith, nat_tests)
+alone_by : (head : Option Head) → value_behind head [] ≡ None
+alone_by (Some (head.Put bytes)) = ap (λ (b : Bool). if b then Some (take bytes (bytes_of [])) else None) (short bytes)
+alone_by (Some head.Delete) = refl
+alone_by (Some (head.Share cell)) = refl
+alone_by (Some head.Unshare) = refl
+alone_by (Some (head.Loose bytes)) = refl
+alone_by (Some head.LooseDelete) = refl
+alone_by (Some (head.Pad words)) = refl
+alone_by None = refl
 
 pub value_alone : (word : ℕ) → value_in (word ∷ []) ≡ None
-value_alone word = alone_by (header_of word) _ (short (header_of word).kind (header_of word).bytes)
+value_alone word = alone_by (head_in word)
 
 -- the spelling of a put has its value
-long : (bytes words : ℕ) → bytes ≤ 1024 → bytes ≤ 8 * words → ((1 == 1) && (nat_le bytes 1024 && nat_le (bytes + 8) (8 * (1 + words)))) ≡ true
-long bytes words le more = grind (arith, nat_tests)
+long : (bytes words : ℕ) → bytes ≤ 8 * words → nat_le (bytes + 8) (8 * (1 + words)) ≡ true
+long bytes words more = grind (arith, nat_tests)
 
 pub value_whole : (key : ℕ) (value : List ℕ) → IsValue value → value_in (spelling (Put key value)) ≡ Some value
 value_whole key value v =
-    let h : header_of (head_word (PutHead (length value))) ≡ header_for (PutHead (length value)) = header_kept (PutHead (length value)) v.is_short in
+    let h : head_in (head_word (head.Put (length value))) ≡ Some (head.Put (length value)) = head_spelled (head_word (head.Put (length value))) (head.Put (length value)) (record { is_head = v.is_short; is_word = refl }) in
     let n : length (key ∷ value_words value) ≡ 1 + words_for (length value) = (let m = length_words_from (words_for (length value)) value in omega (arith, m)) in
-    ap (λ h. value_with h (key ∷ value_words value)) h
-    ∙ ap (λ k. if (1 == 1) && (nat_le (length value) 1024 && nat_le (length value + 8) (8 * k)) then Some (take (length value) (bytes_of (value_words value))) else None) n
-    ∙ ap (λ b. if b then Some (take (length value) (bytes_of (value_words value))) else None) (long (length value) (words_for (length value)) v.is_short (omega arith))
+    ap (λ (o : Option Head). value_behind o (key ∷ value_words value)) h
+    ∙ ap (λ k. if nat_le (length value + 8) (8 * k) then Some (take (length value) (bytes_of (value_words value))) else None) n
+    ∙ ap (λ b. if b then Some (take (length value) (bytes_of (value_words value))) else None) (long (length value) (words_for (length value)) (omega arith))
     ∙ ap Some (value_again (words_for (length value)) value v.are_bytes (omega arith))

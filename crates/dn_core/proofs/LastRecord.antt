@@ -14,7 +14,7 @@ use Rattle.dn_model.specs.Regions.{offsets}
 use Rattle.dn_model.specs.Log.{SpellsAt, Tiles}
 use Rattle.dn_model.specs.Held.{is_authority, authorities, entry_of, unmerged}
 use Rattle.dn_model.specs.OneLog.{is_plain, IsOneLog}
-pub use Rattle.dn_model.proofs.HeldLaws.{from_start}
+use Rattle.dn_model.proofs.HeldLaws.{from_start}
 use Rattle.dn_model.proofs.LogLaws.{tiles_le}
 use Rattle.dn_lane.specs.Sealed.{last_of}
 use Rattle.dn_lane.specs.declared.logged.Sealed.{Sealed}

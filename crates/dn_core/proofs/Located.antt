@@ -15,7 +15,7 @@ use Rattle.dn_model.specs.Register.{is_write}
 use Rattle.dn_lane.specs.declared.answers.Way.{Way}
 use Rattle.dn_lane.specs.declared.answers.Way.TheVariants.{Pending, Index}
 use Rattle.dn_core.specs.Found.{way_by}
-use Rattle.dn_core.proofs.LastRecord.{from_start}
+use Rattle.dn_model.proofs.HeldLaws.{from_start}
 use Rattle.dn_core.specs.Written.{record_by, records_of, write_in, written_in, has_record, way_in}
 
 -- The log leads to a key by a record of it exactly where one of the calls has sealed one.

@@ -2,7 +2,6 @@ use Rattle.std.specs.Prelude.{ℕ, ◌+◌, ◌^◌, ◌-◌, ◌*◌, ◌==◌,
 use Rattle.dn_word.specs.Bytes.{bytes_of}
 use Rattle.dn_word.specs.Deed.{deed_of}
 use Rattle.dn_word.specs.Gate.{gate_of}
-use Rattle.dn_word.specs.Header.{header_of}
 use Rattle.dn_word.specs.Need.{quiet_of, raised_of}
 use Rattle.dn_word.specs.declared.packed.deed.Deed.{Deed}
 use Rattle.dn_word.specs.declared.packed.deed.DeedState.{DeedState}
@@ -14,6 +13,9 @@ use Rattle.dn_hist.specs.declared.calls.Call.{Call}
 use Rattle.dn_hist.specs.declared.calls.Call.TheVariants.{Get, Put, Delete}
 use Rattle.dn_hist.specs.declared.calls.Reply.{Reply}
 use Rattle.dn_hist.specs.declared.calls.Reply.TheVariants as reply
+use Rattle.dn_record.specs.Reading.{head_in}
+use Rattle.dn_record.specs.declared.heads.Head.{Head}
+use Rattle.dn_record.specs.declared.heads.Head.TheVariants as head
 use Rattle.dn_log.specs.Log.{Log, plan_of, sealed_of}
 use Rattle.dn_log.specs.Claim.{turn_of as claim_turn, claim_after}
 use Rattle.dn_log.specs.declared.claims.Claim.{Claim}
@@ -102,12 +104,21 @@ looked l k word d =
 
 -- ---- the fetch
 
--- the value that the words of a fetched record hold: of a Put
+-- the value of a record that begins with this head, where these words stand behind the header: of a put with all its words
+abbrev pub value_behind : Option Head → List ℕ → Option (List ℕ)
+value_behind (Some (head.Put bytes)) ws = if nat_le (bytes + 8) (8 * length ws) then Some (take bytes (bytes_of (drop 1 ws))) else None
+value_behind (Some head.Delete) ws = None
+value_behind (Some (head.Share cell)) ws = None
+value_behind (Some head.Unshare) ws = None
+value_behind (Some (head.Loose bytes)) ws = None
+value_behind (Some head.LooseDelete) ws = None
+value_behind (Some (head.Pad words)) ws = None
+value_behind None ws = None
+
+-- the value that the words of a fetched record hold
 abbrev pub value_in : List ℕ → Option (List ℕ)
 value_in [] = None
-value_in (w ∷ ws) =
-    if ((header_of w).kind == 1) && (nat_le (header_of w).bytes 1024 && nat_le ((header_of w).bytes + 8) (8 * length ws))
-    then Some (take (header_of w).bytes (bytes_of (drop 1 ws))) else None
+value_in (w ∷ ws) = value_behind (head_in w) ws
 
 -- a word names a segment of the pool, where it was loaded for one
 abbrev pub names_segment : Log → Fetching → ℕ → Bool

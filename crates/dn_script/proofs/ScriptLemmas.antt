@@ -3,7 +3,6 @@ use Rattle.std.proofs.lemmas.List.Splits.{length-slice_split}
 use Rattle.std.specs.List.{slice_split}
 use Rattle.std.specs.Cmp.Lexicographic.{pointwise}
 use Rattle.dn_script.specs.declared.scripts.Line.{Line}
-use Rattle.dn_script.specs.declared.faults.ParseFault.TheVariants as fault
 use Rattle.dn_script.specs.Sentence.{get_of, put_of, verb_of, call_of, meaning_of}
 use Rattle.dn_script.specs.Script.{BadLine, meanings_of, lines_from, with_front, then_more}
 use Rattle.dn_script.specs.Fault.{AddsLine}

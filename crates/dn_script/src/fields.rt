@@ -7,6 +7,8 @@ ghost use Rattle.std.specs.Fmt.{decimal};
 ghost use Rattle.std.specs.Cmp.Lexicographic.{pointwise};
 ghost use Rattle.dn_script.specs.Field.{is_within, is_digit, fitting, number_of, key_of, value_of};
 
+use dn_word::MAX_BYTES;
+
 /// Where the first part of the text ends, of those that this byte keeps apart: None where there is one part.
 pub(crate) fn end_of_first(text: &[u8], apart: u8) -> Option<usize>
     ensures within { IfSome result (λ end. end < length text.now) }
@@ -81,7 +83,7 @@ pub(crate) fn value(field: &[u8]) -> Option<&[u8]>
         return None;
     }
     let bytes = &field[1..];
-    if bytes.len() > 1024 || !are_within(bytes, b'!') {
+    if bytes.len() > MAX_BYTES || !are_within(bytes, b'!') {
         return None;
     }
     Some(bytes)

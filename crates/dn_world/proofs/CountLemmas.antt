@@ -7,7 +7,7 @@ use Rattle.dn_hist.specs.declared.receipts.Receipt.{Receipt}
 use Rattle.dn_lane.specs.declared.answers.Way.{Way}
 use Rattle.dn_lane.specs.declared.answers.Way.TheVariants.{Pending, Index}
 use Rattle.dn_world.specs.Ended.{End, Made, Full, Ended, with_receipt, receipts_of}
-use Rattle.dn_world.specs.Output.{given_by, given_in, pending_by, pending_in, index_by, index_in, if_get, pending_way, index_way}
+use Rattle.dn_world.specs.Output.{total, given_by, given_in, pending_by, pending_in, index_by, index_in, if_get, pending_way, index_way}
 use Rattle.dn_world.specs.State.{counted, with_call, with_given, with_made}
 use Rattle.dn_world.specs.World.{counts_of}
 use Rattle.dn_world.specs.declared.counts.Counts.{Counts}
@@ -21,17 +21,9 @@ pub receipts_push : (es : List Ended) (e : Ended) → receipts_of (es ++ e ∷ [
 receipts_push [] e = refl
 receipts_push (x ∷ es) e = with_more x.end (receipts_of es) (receipts_of (es ++ e ∷ [])) (with_receipt e.end []) (receipts_push es e)
 
-given_push : (es : List Ended) (e : Ended) → given_in (es ++ e ∷ []) ≡ given_in es + given_by e.end
-given_push [] e = omega arith
-given_push (x ∷ es) e = omega (arith, given_push es e)
-
-pending_push : (es : List Ended) (e : Ended) → pending_in (es ++ e ∷ []) ≡ pending_in es + pending_by e.end
-pending_push [] e = omega arith
-pending_push (x ∷ es) e = omega (arith, pending_push es e)
-
-index_push : (es : List Ended) (e : Ended) → index_in (es ++ e ∷ []) ≡ index_in es + index_by e.end
-index_push [] e = omega arith
-index_push (x ∷ es) e = omega (arith, index_push es e)
+total_push : (count : End → ℕ) (es : List Ended) (e : Ended) → total count (es ++ e ∷ []) ≡ total count es + count e.end
+total_push count [] e = omega arith
+total_push count (x ∷ es) e = omega (arith, total_push count es e)
 
 pub calls_push : (es : List Ended) (e : Ended) → length (es ++ e ∷ []) ≡ length es + 1
 calls_push es e = length-append es (e ∷ [])
@@ -49,9 +41,9 @@ given_one : (end : End) → given_by end ≤ 1
 given_one (Made receipt way) = omega arith
 given_one (Full counter segments) = omega arith
 
-given_most : (es : List Ended) → given_in es ≤ length es
-given_most [] = omega arith
-given_most (e ∷ es) = omega (arith, given_one e.end, given_most es)
+total_most : (count : End → ℕ) → ((end : End) → count end ≤ 1) → (es : List Ended) → total count es ≤ length es
+total_most count one [] = omega arith
+total_most count one (e ∷ es) = omega (arith, one e.end, total_most count one es)
 
 if_get_one : (call : Call) (n : ℕ) → n ≤ 1 → if_get call n ≤ 1
 if_get_one (Get key) n h = h
@@ -73,14 +65,6 @@ pending_one (Full counter segments) = omega arith
 index_one : (end : End) → index_by end ≤ 1
 index_one (Made receipt way) = if_get_one receipt.call (index_way way) (index_way_one way)
 index_one (Full counter segments) = omega arith
-
-pending_most : (es : List Ended) → pending_in es ≤ length es
-pending_most [] = omega arith
-pending_most (e ∷ es) = omega (arith, pending_one e.end, pending_most es)
-
-index_most : (es : List Ended) → index_in es ≤ length es
-index_most [] = omega arith
-index_most (e ∷ es) = omega (arith, index_one e.end, index_most es)
 
 -- ---- the counts
 pub counted_is : (n : ℕ) → n < 2 ^ 31 → counted n ≡ n + 1
@@ -113,13 +97,13 @@ counts_push : (es : List Ended) (e : Ended)
     }
 counts_push es e =
     counts_by _ _ _ _ _ (length es + 1) (length (receipts_of es ++ with_receipt e.end [])) (given_in es + given_by e.end) (pending_in es + pending_by e.end) (index_in es + index_by e.end)
-    (calls_push es e) (ap length (receipts_push es e)) (given_push es e) (pending_push es e) (index_push es e)
+    (calls_push es e) (ap length (receipts_push es e)) (total_push given_by es e) (total_push pending_by es e) (total_push index_by es e)
 
 pub counts_made : (es : List Ended) (session number : ℕ) (call : Call) (receipt : Receipt) (way : Way) → length es < 2 ^ 31
     → with_made (with_call (counts_of es)) receipt.call way ≡ counts_of (es ++ (record { session = session; number = number; call = call; end = Made receipt way }) ∷ [])
 counts_made es session number call receipt way few =
     made_by receipt.call way (length es) (length (receipts_of es)) (given_in es) (pending_in es) (index_in es) few
-    (omega (arith, receipts_most es)) (omega (arith, pending_most es)) (omega (arith, index_most es))
+    (omega (arith, receipts_most es)) (omega (arith, total_most pending_by pending_one es)) (omega (arith, total_most index_by index_one es))
     ∙ sym (counts_by _ _ _ _ _ (length es + 1) (length (receipts_of es) + 1) (given_in es + 0) (pending_in es + pending_by (Made receipt way)) (index_in es + index_by (Made receipt way))
     refl (length-append (receipts_of es) (receipt ∷ [])) refl refl refl)
     ∙ sym (counts_push es (record { session = session; number = number; call = call; end = Made receipt way }))
@@ -128,5 +112,5 @@ pub counts_full : (es : List Ended) (session number : ℕ) (call : Call) (counte
     → with_given (with_call (counts_of es)) ≡ counts_of (es ++ (record { session = session; number = number; call = call; end = Full counter segments }) ∷ [])
 counts_full es session number call counter segments few =
     counts_by _ _ _ _ _ (length es + 1) (length (receipts_of es ++ [])) (given_in es + 1) (pending_in es + 0) (index_in es + 0)
-    (counted_is (length es) few) (omega (arith, length-append (receipts_of es) [])) (counted_is (given_in es) (omega (arith, given_most es))) (omega arith) (omega arith)
+    (counted_is (length es) few) (omega (arith, length-append (receipts_of es) [])) (counted_is (given_in es) (omega (arith, total_most given_by given_one es))) (omega arith) (omega arith)
     ∙ sym (counts_push es (record { session = session; number = number; call = call; end = Full counter segments }))

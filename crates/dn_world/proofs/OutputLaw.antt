@@ -19,7 +19,7 @@ use Rattle.dn_word.specs.declared.packed.gate.Gate.{Gate}
 use Rattle.dn_act.specs.Words.{word_at}
 use Rattle.dn_world.specs.Course.{first_of, last_position}
 use Rattle.dn_world.specs.Ended.{End, Made, Full, Ended, with_receipt, receipts_of}
-use Rattle.dn_world.specs.Output.{end_text, events_text, lines_text, given_by, given_in, if_get, pending_way, index_way, pending_by, pending_in, index_by, index_in}
+use Rattle.dn_world.specs.Output.{end_text, events_text, lines_text, total, given_by, given_in, if_get, pending_way, index_way, pending_by, pending_in, index_by, index_in}
 use Rattle.dn_model.specs.Regions.{mark}
 use Rattle.dn_world.specs.Run.{IsRun}
 use Rattle.dn_world.proofs.OneOrder.{one_order, placed_rising}
@@ -134,17 +134,9 @@ calls_bare : (es : List Ended) → length (bare_all es) ≡ length es
 calls_bare [] = refl
 calls_bare (e ∷ es) = ap suc (calls_bare es)
 
-given_bare : (es : List Ended) → given_in (bare_all es) ≡ given_in es
-given_bare [] = refl
-given_bare (e ∷ es) = λ i. given_end e.end i + given_bare es i
-
-pending_bare : (es : List Ended) → pending_in (bare_all es) ≡ pending_in es
-pending_bare [] = refl
-pending_bare (e ∷ es) = λ i. pending_end e.end i + pending_bare es i
-
-index_bare : (es : List Ended) → index_in (bare_all es) ≡ index_in es
-index_bare [] = refl
-index_bare (e ∷ es) = λ i. index_end e.end i + index_bare es i
+total_bare : (count : End → ℕ) → ((end : End) → count (bare_end end) ≡ count end) → (es : List Ended) → total count (bare_all es) ≡ total count es
+total_bare count same [] = refl
+total_bare count same (e ∷ es) = λ i. same e.end i + total_bare count same es i
 
 gate_bare : (rs : List Receipt) → last_gate (bares rs) ≡ last_gate rs
 gate_bare rs = λ i. gate_of (gate_word (record { fenced = false; stamp = (last_bare (first_of 1) rs i).stamp; len = length (words_bare 0 rs i) }))
@@ -154,7 +146,7 @@ prints_bare es =
     let rs : List Receipt = receipts_of es in
     ap (λ ss. printed_with (bare_all es) ss) (receipts_bare es)
     ∙ (λ i. sheet (events_bare es i) (lines_bare rs i) (length_bare rs i) (gate_bare rs i).stamp (gate_bare rs i).len 0 (calls_bare es i) (length_bare rs i)
-    (given_bare es i) (pending_bare es i) (index_bare es i) (len (map_bare empty rs i)))
+    (total_bare given_by given_end es i) (total_bare pending_by pending_end es i) (total_bare index_by index_end es i) (len (map_bare empty rs i)))
 
 -- ---- the law
 history_is : (pool : ℕ) (lines : List Line) (words output : List ℕ) (h : IsRun pool lines words output) → h.history ≡ receipts_of h.ended

@@ -35,14 +35,18 @@ abbrev pub history_text : List Receipt → List ℕ
 history_text history = history_head_text (length history) ++ lines_text history
 
 -- ---- what is counted
+-- the sum of what each call's end counts for
+abbrev pub total : (End → ℕ) → List Ended → ℕ
+total count [] = 0
+total count (e ∷ es) = count e.end + total count es
+
 -- calls that were given up
 abbrev pub given_by : End → ℕ
 given_by (Made receipt way) = 0
 given_by (Full counter segments) = 1
 
 abbrev pub given_in : List Ended → ℕ
-given_in [] = 0
-given_in (e ∷ es) = given_by e.end + given_in es
+given_in es = total given_by es
 
 -- answered gets that were located by a pending record, and by the index
 abbrev pub pending_way : Way → ℕ
@@ -63,16 +67,14 @@ pending_by (Made receipt way) = if_get receipt.call (pending_way way)
 pending_by (Full counter segments) = 0
 
 abbrev pub pending_in : List Ended → ℕ
-pending_in [] = 0
-pending_in (e ∷ es) = pending_by e.end + pending_in es
+pending_in es = total pending_by es
 
 abbrev pub index_by : End → ℕ
 index_by (Made receipt way) = if_get receipt.call (index_way way)
 index_by (Full counter segments) = 0
 
 abbrev pub index_in : List Ended → ℕ
-index_in [] = 0
-index_in (e ∷ es) = index_by e.end + index_in es
+index_in es = total index_by es
 
 -- the lane's line, the calls, the ways of the answered gets, and the number of keys that the history leaves
 abbrev pub summary_text : List Ended → List Receipt → List ℕ → List ℕ

@@ -22,8 +22,8 @@ AreCalled number (Call session call ∷ lines) (e ∷ es) = (e.session ≡ sessi
 -- A run of a script's lines in a pool of so many segments, that left these words and printed this output. Each call was made, or
 -- given up where there was no room for its record, and stands where the rule of positions places it. The printed history has
 -- the receipt of each call that was made once and nothing else, in order of position; a plain map that starts empty gives every
--- reply of it; in the order of the calls, a session's numbers and positions rise. The pool's words hold the map that the history
--- leaves, in a log of the records of these calls.
+-- reply of it; in the order of the calls, a session's numbers and positions rise. The words hold the map to which this history
+-- leads, and each of them is what the calls put there, or 0.
 pub record IsRun (pool : ℕ) (lines : List Line) (words output : List ℕ) : Type 0 where
   pub ended : List Ended
   pub history : List Receipt

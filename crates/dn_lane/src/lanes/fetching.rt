@@ -17,8 +17,9 @@ use crate::spelled::key_of;
 use dn_hist::Call;
 use dn_locate::{Fetch, FetchTurn, Wish};
 use dn_log::LogWriter;
+use dn_record::Head;
 use dn_word::regions::{SEGMENT_WORDS, SEGMENTS_AT};
-use dn_word::{Deed, DeedState, Header, Ref, ValueRoom};
+use dn_word::{Deed, DeedState, Ref, ValueRoom};
 
 /// What a call's fetch is to bring: a get needs the value.
 fn wish_of(call: &Call) -> Wish
@@ -45,13 +46,12 @@ fn read_value(words: &[u64], room: &mut ValueRoom) -> bool
     if words.is_empty() {
         return false;
     }
-    let header = Header::read(words[0]);
-    let content = 8 * (words.len() - 1);
-    if header.kind == 1 && header.bytes <= 1024 && header.bytes as usize + 8 <= content {
-        room.fill_words(&words[2..], header.bytes);
-        true
-    } else {
-        false
+    match Head::read(words[0]) {
+        Some(Head::Put { bytes }) if bytes as usize + 8 <= 8 * (words.len() - 1) => {
+            room.fill_words(&words[2..], bytes);
+            true
+        }
+        _ => false,
     }
 }
 
