@@ -46,7 +46,7 @@ pub fn run<S: Source, K: Sink, M: Memory>(
     ensures stopped { IsPlay words.now → IsStop result → (left : List ℕ) (lines : List Line) → S.left source.old ≡ Some left → script_of left ≡ Ok lines → IsStopped (segments_of (length (M.words pool.old))) lines (M.words pool.new) }
     ensures complete { IsPlay words.now → (left : List ℕ) (lines : List Line) → S.left source.old ≡ Some left → length left ≤ 67108864 → script_of left ≡ Ok lines → (Rose (S.faults source.old) (S.faults source.new) → ⊥) → (Rose (K.faults sink.old) (K.faults sink.new) → ⊥) → M.faults pool.new ≡ M.faults pool.old → (result ≡ Status.Ok) ⊎ (result ≡ Status.OutOfMemory) }
     ensures end { result ≡ Status.Ok → IsAtEnd (S.left source.new) }
-    ensures unplayed_script { IsPlay words.now → (left : List ℕ) → S.left source.old ≡ Some left → (IsPlayed (verdict_of left) → ⊥) → M.words pool.new ≡ M.words pool.old }
+    ensures unplayed { IsPlay words.now → (left : List ℕ) → S.left source.old ≡ Some left → (IsPlayed (verdict_of left) → ⊥) → M.words pool.new ≡ M.words pool.old }
     ensures bad_part { IsPlay words.now → result ≡ Status.WriteFault → (left : List ℕ) (bad : BadLine) → S.left source.old ≡ Some left → script_of left ≡ Err bad → WroteFront (K.written sink.old) (K.written sink.new) (bad_line_text bad.line (name_of bad.cause)) }
     ensures refused_part { (IsPlay words.now → ⊥) → result ≡ Status.WriteFault → WroteFront (K.written sink.old) (K.written sink.new) bad_words_text }
     ensures index { result ≢ Status.IndexFull }
@@ -60,8 +60,8 @@ pub fn run<S: Source, K: Sink, M: Memory>(
     ensures refused { result ≡ Status.BadWords → Writes (K.written sink.old) (K.written sink.new) bad_words_text }
     ensures bad_line { result ≡ Status.BadScript → (left : List ℕ) (bad : BadLine) → S.left source.old ≡ Some left → script_of left ≡ Err bad → Writes (K.written sink.old) (K.written sink.new) (bad_line_text bad.line (name_of bad.cause)) }
     ensures unread { (IsPlay words.now → ⊥) → S.left source.new ≡ S.left source.old }
-    ensures untouched { (IsPlay words.now → ⊥) → M.words pool.new ≡ M.words pool.old }
-    ensures unplayed { LeavesPool result → M.words pool.new ≡ M.words pool.old }
+    ensures unasked { (IsPlay words.now → ⊥) → M.words pool.new ≡ M.words pool.old }
+    ensures untouched { LeavesPool result → M.words pool.new ≡ M.words pool.old }
     ensures unwritten { LeavesSink result → K.written sink.new ≡ K.written sink.old }
 {
     if is_play(words) {

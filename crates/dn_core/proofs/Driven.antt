@@ -15,9 +15,9 @@ use Rattle.dn_lane.specs.declared.answers.Turn.TheVariants.{More, Done}
 use Rattle.dn_lane.specs.declared.places.Work.{Work}
 use Rattle.dn_core.specs.Placing.{position_of}
 use Rattle.dn_core.specs.Sound.{IsSound, IsReceiptOf, IsWayOf, IsFull, Answers, GoesOn, IsKept}
-use Rattle.dn_core.specs.Image.{brought, IsExact, ExactBy}
+use Rattle.dn_core.specs.Image.{brought, IsExact, ExactBy, ExactAfter}
 use Rattle.dn_core.specs.Written.{len_from, sealed_at}
-use Rattle.dn_core.proofs.ExactKept.{ExactAfter, step_exact}
+use Rattle.dn_core.proofs.ExactKept.{step_exact}
 use Rattle.dn_core.proofs.Kept.{step_kept}
 
 -- ---- what is kept for a call is kept for it at a later place

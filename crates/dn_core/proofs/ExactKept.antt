@@ -41,7 +41,7 @@ use Rattle.dn_core.specs.Standing.{IsStanding}
 use Rattle.dn_core.specs.Calling.{IsTimed, IsRaising, IsCalling, IsCallingOr, AtClaim, AtSeal}
 use Rattle.dn_core.specs.Sound.{IsSound, IsKept}
 use Rattle.dn_core.specs.Written.{len_with, len_from}
-use Rattle.dn_core.specs.Image.{words_with, log_words, segments_for, brings, brought, IsExact, ExactBy}
+use Rattle.dn_core.specs.Image.{words_with, log_words, segments_for, brings, brought, IsExact, ExactAfter}
 use Rattle.dn_core.proofs.State.{call_at, running, stamp_in}
 use Rattle.dn_core.proofs.Brought.{brought_there}
 use Rattle.dn_core.proofs.Entered.{planned_end}
@@ -60,11 +60,6 @@ use Rattle.dn_core.proofs.Spares.{reach_alone, words_few, start_near}
 use Rattle.dn_core.proofs.StagedKinds.{staged_kinds, kind_below, plan_within}
 
 -- Each action of a lane keeps the words exact.
-
--- what is exact after a turn
-abbrev pub ExactAfter : List ℕ → ℕ → List Receipt → LaneState → Turn → Type 0
-ExactAfter words lane rs l More = IsExact words lane rs (brought l.work (len_from 0 rs))
-ExactAfter words lane rs l (Done answer) = ExactBy words lane rs answer
 
 -- ---- a turn that leaves the words of the log as they are
 -- once its words are staged, a call brings them, and the counter has counted the segments for them

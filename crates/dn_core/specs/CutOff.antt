@@ -12,9 +12,8 @@ use Rattle.dn_core.specs.Sound.{IsKept}
 pub record IsSameBut (at : ℕ) (words now : List ℕ) : Type 0 where
   pub others : (i : ℕ) → i ≢ at → word_at now i ≡ word_at words i
 
--- A call that found the gate at this stamp was cut off. Either it stands where it stood before the action, or where the lane of
--- this pool and number stands that has taken the action's word: the words are sound with the receipts of before, or with the
--- call's own behind them.
+-- A call that found the gate at this stamp was cut off: with some lane of this pool and number the words are sound, with the
+-- receipts of before or with the call's own behind them.
 pub record IsCutOff (k : Work) (stamp : ℕ) (words : List ℕ) (pool number : ℕ) (receipts : List Receipt) : Type 0 where
   pub lane : LaneState
   pub turn : Turn

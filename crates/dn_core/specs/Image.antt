@@ -10,8 +10,11 @@ use Rattle.dn_log.specs.Log.{is_short, rest_of}
 use Rattle.dn_model.specs.Regions.{gate, gate_at, deed_at, directory, directory_at}
 use Rattle.dn_lane.specs.Spelled.{record_words}
 use Rattle.dn_lane.specs.Staged.{spelled}
+use Rattle.dn_lane.specs.State.{LaneState}
 use Rattle.dn_lane.specs.declared.answers.Answer.{Answer}
 use Rattle.dn_lane.specs.declared.answers.Answer.TheVariants.{Made, NotOwner, Fenced, Full, Worn}
+use Rattle.dn_lane.specs.declared.answers.Turn.{Turn}
+use Rattle.dn_lane.specs.declared.answers.Turn.TheVariants.{More, Done}
 use Rattle.dn_lane.specs.declared.places.Place.{Place}
 use Rattle.dn_lane.specs.declared.places.Place.TheVariants as at
 use Rattle.dn_lane.specs.declared.places.Work.{Work}
@@ -84,10 +87,16 @@ pub record IsExact (words : List ℕ) (lane : ℕ) (receipts : List Receipt) (mo
   pub log : (o : ℕ) → (word_at words (98304 + o) ≡ slice_index (log_words 0 receipts) o) ⊎ (word_at words (98304 + o) ≡ slice_index (log_words 0 receipts ++ more) o)
   pub others : (at : ℕ) → IsUnused lane at → word_at words at ≡ 0
 
--- the words are exact again once a call has ended so
+-- ---- behind a turn of the lane
+-- once a call has ended so, the words are those between calls again
 abbrev pub ExactBy : List ℕ → ℕ → List Receipt → Answer → Type 0
 ExactBy words lane receipts (Made receipt way) = IsExact words lane (receipts ++ receipt ∷ []) []
 ExactBy words lane receipts (Full counter segments) = IsExact words lane receipts []
 ExactBy words lane receipts (NotOwner look cell) = Unit {0}
 ExactBy words lane receipts (Fenced word) = Unit {0}
 ExactBy words lane receipts (Worn stamp) = Unit {0}
+
+-- and until then those while it is under way
+abbrev pub ExactAfter : List ℕ → ℕ → List Receipt → LaneState → Turn → Type 0
+ExactAfter words lane receipts l More = IsExact words lane receipts (brought l.work (len_from 0 receipts))
+ExactAfter words lane receipts l (Done answer) = ExactBy words lane receipts answer

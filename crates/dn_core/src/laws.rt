@@ -19,9 +19,10 @@ ghost use Rattle.dn_lane.specs.State.{LaneState};
 ghost use Rattle.dn_lane.specs.Taken.{taken_of};
 ghost use Rattle.dn_lane.specs.declared.places.Work.{Work};
 ghost use Rattle.dn_core.specs.Calling.{IsCall};
-ghost use Rattle.dn_core.specs.Image.{log_words, IsExact, IsImage};
+ghost use Rattle.dn_core.specs.Image.{log_words, brought, IsExact, ExactAfter, IsImage};
 ghost use Rattle.dn_core.specs.Opened.{IsOpened};
 ghost use Rattle.dn_core.specs.Sound.{IsSound, IsKept};
+ghost use Rattle.dn_core.specs.Written.{len_from};
 
 /// A pool of zeros that was opened for a lane is sound, and no call was made; and every word of it is known.
 pub fn opened()
@@ -39,11 +40,14 @@ pub fn begins()
 {}
 
 /// A lane that performs its next action and takes the word that it found stays sound: the call goes on, or ends made or without
-/// room.
+/// room. And every word of the pool is as the calls before left it, or as this one will.
 pub fn steps()
-    ensures { (words now : List ℕ) (l : LaneState) (k : Work) (receipts : List Made) (action : Action) (word : ℕ) → IsSound words l receipts
+    ensures sound { (words now : List ℕ) (l : LaneState) (k : Work) (receipts : List Made) (action : Action) (word : ℕ) → IsSound words l receipts
         → l.work ≡ Some k → next_of l ≡ Some action → Performs action word words now
         → IsKept k (gate words l.log.lane).stamp now (taken_of l word).lane receipts (taken_of l word).turn }
+    ensures exact { (words now : List ℕ) (l : LaneState) (receipts : List Made) (action : Action) (word : ℕ) → IsSound words l receipts
+        → IsExact words l.log.lane receipts (brought l.work (len_from 0 receipts)) → next_of l ≡ Some action → Performs action word words now
+        → ExactAfter now l.log.lane receipts (taken_of l word).lane (taken_of l word).turn }
 {}
 
 /// The receipts of a sound state, in order of position, are a legal history, and the pool holds the map that it leaves. Between

@@ -17,8 +17,7 @@ use dn_lane::{Answer, Lane, Turn};
 ///
 /// The answer is what a sound state promises of a call: it is made, and its receipt joins those before it, or the pool has no
 /// room for its record, and receipts and map stay. Every word of the pool is known again then. A `Failed` access raised the
-/// memory's count of faults, and left the pool sound: with the receipts of before, or, where its action was done and was the
-/// call's last, with the call's own too.
+/// memory's count of faults, and left the pool sound: with the receipts of before, or with the call's own behind them.
 pub fn drive<M: Memory>(lane: &mut Lane, mem: &mut M) -> Result<Answer, Failed>
     requires works { IsSome lane.old.work }
     requires size { 98304 + 1024 * lane.old.log.pool ≤ length (M.words mem.old) }

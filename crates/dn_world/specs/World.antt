@@ -36,9 +36,9 @@ pub record IsTold (receipts : List Receipt) (number : ℕ) (last : Position) : T
   pub numbers : (r : Receipt) → Contains receipts r → r.number ≤ number
   pub upto : (r : Receipt) → Contains receipts r → (r.position ≡ last) ⊎ IsBefore r.position last
 
--- The pool and its lane are sound with the receipts of the calls that ended so, every word of the pool is known, and no call is under way; the world's history,
--- counts and last position are theirs; each call ended, and stands, by those before it; and the gate has the stamp of the last
--- position, which only the session's calls raise.
+-- The pool and its lane are sound with the receipts of the calls that ended so, every word of the pool is known, and no call is
+-- under way; the world's history, counts and last position are theirs; each call ended, and stands, by those before it; and the
+-- gate has the stamp of the last position, which only the session's calls raise.
 pub record IsWorld (words : List ℕ) (w : WorldState) (ended : List Ended) : Type 0 where
   pub sound : IsSound words w.lane (receipts_of ended)
   pub exact : IsExact words 1 (receipts_of ended) []
