@@ -1,6 +1,5 @@
 use Rattle.std.specs.Prelude.{◌≡◌, ◌<◌, ℕ, ◌+◌, List, length, slice_index}
 use Rattle.dn_log.specs.Log.{Log, reach_of}
-use Rattle.dn_core.specs.Space.{IsSpace}
 use Rattle.dn_model.specs.Regions.{directory}
 
 -- A lane's directory names the segments of its log, in their order. Beyond them it names nothing but the spare, whose word may
@@ -9,13 +8,3 @@ pub record NamesSegments (words : List ℕ) (log : Log) : Type 0 where
   pub named : (q : ℕ) → q < length log.segments → directory words log.lane q ≡ slice_index log.segments q + 1
   pub no_more : (q : ℕ) → q < 256 → 0 < directory words log.lane q
       → (q < length (reach_of log)) × (directory words log.lane q ≡ slice_index (reach_of log) q + 1)
-
--- The segments of a lane's log of this length: the directory names them, each is the pool's, none is named twice, and the counter
--- has counted them.
-pub record HasSegments (words : List ℕ) (lane pool len : ℕ) : Type 0 where
-  pub log : Log
-  pub lane_is : log.lane ≡ lane
-  pub pool_is : log.pool ≡ pool
-  pub len_is : log.len ≡ len
-  pub space : IsSpace words log
-  pub directory : NamesSegments words log

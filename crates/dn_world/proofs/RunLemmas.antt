@@ -50,10 +50,6 @@ events_push (x ∷ es) e =
     ∙ sym (append_assoc (end_text x.session x.number x.end) (events_text es) (end_text e.session e.number e.end))
 
 -- ---- a play
--- no line was called
-pub play_starts : (lines : List Line) (words : List ℕ) (w : WorldState) (out : List ℕ) → IsWorld words w [] → out ≡ [] → IsPlaying lines 0 words w out
-play_starts lines words w out h e = record { ended = []; called = tt; world = h; printed = e }
-
 -- one more line was called
 play_goes_on : (lines : List Line) (i : ℕ) (session : ℕ) (call : CallOf) (words now : List ℕ) (w v : WorldState) (out new : List ℕ) → i < length lines
     → Call session call ≡ get_or lines i (Call session call) → IsLine (Call session call) → length lines < 2 ^ 31 → IsPlaying lines i words w out
