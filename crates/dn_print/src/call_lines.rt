@@ -113,7 +113,8 @@ pub fn made(
     reply: &Reply,
     position: Position,
 ) -> Result<(), OutOfMemory>
-    ensures ok { OnOk result (out.new.items ≡ out.old.items ++ made_text session number reply.now position) }
+    ensures ok { OnOk result (out.new.items ≡ out.old.items
+        ++ made_text session number reply.now position) }
     ensures same { OnErr result (out.new.items ≡ out.old.items) }
 {
     let line = made_line(alloc, session, number, reply, position)?;

@@ -93,7 +93,8 @@ pub fn history_line(
     receipt: &Receipt,
     answered: bool,
 ) -> Result<(), OutOfMemory>
-    ensures ok { OnOk result (out.new.items ≡ out.old.items ++ history_line_text receipt.now answered) }
+    ensures ok { OnOk result (out.new.items ≡ out.old.items
+        ++ history_line_text receipt.now answered) }
     ensures same { OnErr result (out.new.items ≡ out.old.items) }
 {
     let line = receipt_line(alloc, receipt, answered)?;

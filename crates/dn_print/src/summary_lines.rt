@@ -123,7 +123,8 @@ pub fn calls_line(
     unanswered: u64,
     given: u64,
 ) -> Result<(), OutOfMemory>
-    ensures ok { OnOk result (out.new.items ≡ out.old.items ++ calls_text calls made refused unanswered given) }
+    ensures ok { OnOk result (out.new.items ≡ out.old.items
+        ++ calls_text calls made refused unanswered given) }
     ensures same { OnErr result (out.new.items ≡ out.old.items) }
 {
     let line = calls_words(alloc, calls, made, refused, unanswered, given)?;
@@ -162,7 +163,8 @@ pub fn ways_line(
     index: u64,
     cell: u64,
 ) -> Result<(), OutOfMemory>
-    ensures ok { OnOk result (out.new.items ≡ out.old.items ++ ways_text value shortcut pending index cell) }
+    ensures ok { OnOk result (out.new.items ≡ out.old.items
+        ++ ways_text value shortcut pending index cell) }
     ensures same { OnErr result (out.new.items ≡ out.old.items) }
 {
     let line = ways_words(alloc, value, shortcut, pending, index, cell)?;
