@@ -292,7 +292,7 @@ fn refuse<K: Sink>(alloc: Global, sink: &mut K, line: u64, cause: Cause) -> Stat
         → Writes (K.written sink.old) (K.written sink.new) (bad_line_text line (name_of cause)) }
 {
     let mut out = Vec::new(alloc);
-    match bad_line(alloc, &mut out, line, cause.name()) {
+    match bad_line(&mut out, line, cause.name()) {
         Ok(()) => write_out(sink, out.as_slice(), Status::BadScript),
         Err(_) => Status::OutOfMemory,
     }

@@ -12,12 +12,12 @@ use dn_word::{Gate, OutOfMemory};
 use std::alloc::Global;
 
 /// Appends the history's lines.
-fn print_history(alloc: Global, out: &mut Vec<u8>, history: &[Receipt]) -> Result<(), OutOfMemory>
+fn print_history(out: &mut Vec<u8>, history: &[Receipt]) -> Result<(), OutOfMemory>
     ensures { OnOk result (out.new.items ≡ out.old.items ++ history_text history.now) }
 {
-    history_head(alloc, out, history.len() as u64)?;
+    history_head(out, history.len() as u64)?;
     for receipt in history {
-        history_line(alloc, out, receipt, true)?;
+        history_line(out, receipt, true)?;
     }
     Ok(())
 }
@@ -56,18 +56,10 @@ fn print_summary(
         index,
     } = counts;
     let refused = given as u64;
-    lane_line(
-        alloc,
-        out,
-        lane,
-        LaneState::Live,
-        gate.stamp,
-        gate.len,
-        mark,
-    )?;
-    calls_line(alloc, out, calls as u64, made as u64, refused, 0, refused)?;
-    ways_line(alloc, out, 0, 0, pending as u64, index as u64, 0)?;
-    map_line(alloc, out, keys)
+    lane_line(out, lane, LaneState::Live, gate.stamp, gate.len, mark)?;
+    calls_line(out, calls as u64, made as u64, refused, 0, refused)?;
+    ways_line(out, 0, 0, pending as u64, index as u64, 0)?;
+    map_line(out, keys)
 }
 
 /// Appends the history and the summary.
@@ -83,6 +75,6 @@ pub(crate) fn print_rest(
     ensures { OnOk result (out.new.items ≡ out.old.items
         ++ (history_text history.now ++ counts_text counts history.now lane gate mark)) }
 {
-    print_history(alloc, out, history)?;
+    print_history(out, history)?;
     print_summary(alloc, out, counts, history, lane, gate, mark)
 }

@@ -209,16 +209,7 @@ impl World {
         counts.count_made(&receipt.call, way);
         let position = receipt.position;
         let number = receipt.number;
-        if made(
-            self.alloc,
-            out,
-            position.session,
-            number,
-            &receipt.reply,
-            position,
-        )
-        .is_err()
-        {
+        if made(out, position.session, number, &receipt.reply, position).is_err() {
             return Err(Stop::OutOfMemory);
         }
         if self.history.push(receipt).is_err() {
@@ -247,10 +238,10 @@ impl World {
     {
         let mut counts = counts;
         counts.count_given();
-        if event(self.alloc, out, line).is_err() {
+        if event(out, line).is_err() {
             return Err(Stop::OutOfMemory);
         }
-        if event(self.alloc, out, &EventLine::Given { session, number }).is_err() {
+        if event(out, &EventLine::Given { session, number }).is_err() {
             return Err(Stop::OutOfMemory);
         }
         self.counts = counts;
