@@ -1,4 +1,4 @@
-use Rattle.std.proofs.Common.{replicate, length-set, ◌∷◌, slice_set, get_or-set_same, get_or-set_other, ◌⊎◌, inl, inr, refl, Bool, true, false, nat_lt, nat_eq, ◌≡◌, ◌≢◌, ℕ, ◌+◌, ◌-◌, ◌*◌, ◌/◌, ◌%◌, ◌^◌, ◌<◌, ◌≤◌, List, [], Contains, Option, Some, None, length, slice_index, slice_index_or, sym, ◌∙◌, subst, ap, arith}
+use Rattle.std.proofs.Common.{replicate, length-set, ◌∷◌, slice_set, get_or-set_same, get_or-set_other, ◌⊎◌, inl, inr, refl, Bool, true, false, nat_lt, nat_eq, ◌≡◌, ◌≢◌, ℕ, ◌+◌, ◌*◌, ◌/◌, ◌%◌, ◌^◌, ◌<◌, ◌≤◌, List, [], Contains, Option, Some, None, length, slice_index, slice_index_or, sym, ◌∙◌, subst, ap, arith}
 use Rattle.std.proofs.lemmas.Bool.{cases_eq, cases_lt, ltb-true}
 use Rattle.std.proofs.lemmas.List.{get_or-replicate, length-replicate}
 use Rattle.std.proofs.Math.ListN.{get_or-eq_default}

@@ -1,0 +1,1 @@
+//! How sessions keep the caller's order, as functions without work: what each says is its contract.

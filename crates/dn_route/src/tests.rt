@@ -1,0 +1,2 @@
+use crate::Session;
+use std::test::Fail;
