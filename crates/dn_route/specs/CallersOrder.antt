@@ -11,6 +11,10 @@ pub record Told : Type 0 where
   pub number : ℕ
   pub position : Position
 
+-- a session is told this position now
+abbrev pub told_now : SessionState → Position → Told
+told_now s position = record { session = s.session; number = s.number; position = position }
+
 -- A history is in caller's order with what sessions were told: the receipts of each session rise in number and in position, and those
 -- of the calls that it starts after it was told a position have greater positions.
 pub record KeepsCallersOrder (told : List Told) (receipts : List Receipt) : Type 0 where

@@ -1,6 +1,6 @@
 ghost use Rattle.std.specs.Prelude.{◌≡◌, ◌≢◌, ◌+◌, ◌-◌, ◌^◌, ◌<◌, ◌≤◌, ℕ, length, OnOk, OnErr, slice_index};
 ghost use Rattle.dn_word.specs.Deed.{deed_of};
-ghost use Rattle.dn_route.specs.SessionState.{opened, numbered, view_of, heard, refreshed};
+ghost use Rattle.dn_route.specs.SessionState.{opened, numbered, hint_of, view_of, heard, refreshed};
 
 use dn_hist::SessionView;
 use dn_word::{Deed, OutOfMemory, Position};
@@ -19,9 +19,9 @@ const SLOTS: usize = 64;
 pub struct Session {
     session: u32,
     number: u32,
-    known: Position,
+    last: Position,
     routes: [u8; SLOTS],
-    pairs: Vec<(u64, u8)>,
+    hints: Vec<(u64, u8)>,
 }
 
 impl Model for Session {
@@ -30,7 +30,7 @@ impl Model for Session {
 
     ghost Value = { SessionState };
 
-    ghost view = { λ a. record { session = a.session; number = a.number; last = a.known; routes = a.routes; hints = a.pairs.items } };
+    ghost view = { λ a. record { session = a.session; number = a.number; last = a.last; routes = a.routes; hints = a.hints.items } };
 
     ghost invariant = { λ a. length a.routes ≡ 64 };
 }
@@ -46,13 +46,13 @@ impl Session {
         Session {
             session: number,
             number: 0,
-            known: Position {
+            last: Position {
                 stamp: 0,
                 rank: 0,
                 session: number,
             },
             routes: [0; SLOTS],
-            pairs: Vec::new(alloc),
+            hints: Vec::new(alloc),
         }
     }
 
@@ -72,12 +72,11 @@ impl Session {
     pub fn again(&self, key: u64) -> SessionView
         ensures { result ≡ view_of self.now key }
     {
-        let hint = self.pairs.iter().find(|pair| pair.0 == key);
         SessionView {
             session: self.session,
             number: self.number,
-            last: self.known,
-            hint: hint.map(|pair| pair.1),
+            last: self.last,
+            hint: hint(self.hints.as_slice(), key),
         }
     }
 
@@ -85,7 +84,7 @@ impl Session {
     pub fn last(&self) -> Position
         ensures { result ≡ self.now.last }
     {
-        self.known
+        self.last
     }
 
     /// Tells the session a position, of a reply to a call of its own or from another session: its last position is the greater of the
@@ -93,8 +92,8 @@ impl Session {
     pub fn told(&mut self, position: Position)
         ensures { self.new ≡ heard self.old position }
     {
-        if self.known < position {
-            self.known = position;
+        if self.last < position {
+            self.last = position;
         }
     }
 
@@ -123,8 +122,15 @@ impl Session {
         ensures ok { OnOk result (self.new ≡ record self.old { hints = pairs.now }) }
         ensures err { OnErr result (self.new ≡ self.old) }
     {
-        let alloc = *self.pairs.allocator();
-        self.pairs = Vec::from_slice(alloc, pairs).map_err(|_| OutOfMemory)?;
+        let alloc = *self.hints.allocator();
+        self.hints = Vec::from_slice(alloc, pairs).map_err(|_| OutOfMemory)?;
         Ok(())
     }
+}
+
+/// The cell of the first pair with a key, or none.
+fn hint(pairs: &[(u64, u8)], key: u64) -> Option<u8>
+    ensures { result ≡ hint_of pairs.now key }
+{
+    pairs.iter().find(|pair| pair.0 == key).map(|pair| pair.1)
 }
