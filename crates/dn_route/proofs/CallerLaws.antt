@@ -1,4 +1,4 @@
-use Rattle.std.proofs.Common.{◌≡◌, ◌≢◌, ◌⊎◌, ℕ, zero, suc, ◌+◌, ◌<◌, ◌≤◌, List, [], ◌∷◌, ◌++◌, length, Some, Contains, inl, inr, refl, sym, ap, subst, ◌∙◌, arith}
+use Rattle.std.proofs.Common.{◌≡◌, ◌≢◌, ◌⊎◌, ℕ, zero, suc, ◌<◌, ◌≤◌, List, [], ◌∷◌, ◌++◌, length, Some, Contains, inl, inr, refl, sym, ap, subst, ◌∙◌, arith}
 use Rattle.std.specs.List.{slice_get}
 use Rattle.std.proofs.lemmas.List.Elements.{Contains-append_cases}
 use Rattle.std.proofs.lemmas.Option.{slice_get_within, get_or_from_slice_get}
@@ -64,8 +64,8 @@ good_view told receipts s key k = record {
 
 pub good_again : (told : List Told) (receipts : List Receipt) (s : SessionState) (key : ℕ) → Knows told receipts s
     → ((r : Receipt) → Contains receipts r → r.position.session ≡ s.session → r.number ≢ s.number) → IsGood told receipts (view_of s key)
-good_again told receipts s key k open_ = record {
-  numbers = λ r c e. omega (arith, k.numbers r c e, open_ r c e);
+good_again told receipts s key k unanswered = record {
+  numbers = λ r c e. omega (arith, k.numbers r c e, unanswered r c e);
   positions = k.positions;
   told_positions = λ t c e _. k.told_positions t c e;
 }
@@ -121,7 +121,7 @@ pub order_heard : (told : List Told) (receipts : List Receipt) (s : SessionState
 order_heard told receipts s p k o = record {
   rises = o.rises;
   behind = λ t r c d e lt. more (λ (u : Told). r.position.session ≡ u.session → u.number < r.number → IsBefore u.position r.position) told _
-      (λ u h. o.behind u r h d) (λ same more_. absurd (omega (arith, k.numbers r d same, more_))) t c e lt;
+      (λ u h. o.behind u r h d) (λ same above. absurd (omega (arith, k.numbers r d same, above))) t c e lt;
 }
 
 rises_more : (rs : List Receipt) (r : Receipt) → IsInCallersOrder rs → ((a : Receipt) → Contains rs a → a.position.session ≡ r.position.session → (a.number < r.number) × IsBefore a.position r.position)

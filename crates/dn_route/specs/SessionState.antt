@@ -21,7 +21,13 @@ pub record SessionState : Type 0 where
 
 -- a session that has made no call and knows no position but the first of its own
 abbrev pub opened : ℕ → SessionState
-opened session = record { session = session; number = 0; last = record { stamp = 0; rank = 0; session = session }; routes = replicate 64 0; hints = [] }
+opened session = record {
+  session = session;
+  number = 0;
+  last = record { stamp = 0; rank = 0; session = session };
+  routes = replicate 64 0;
+  hints = [];
+}
 
 -- the cell of the first pair with this key
 abbrev pub hint_of : List (ℕ × ℕ) → ℕ → Option ℕ

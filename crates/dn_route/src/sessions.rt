@@ -10,11 +10,11 @@ use std::marker::Model;
 /// How many slots there are.
 const SLOTS: usize = 64;
 
-/// What a caller knows between its calls. Contracts see a record of plain data: the session's number, the number of its last call,
-/// the last position, the routes of the 64 slots, and the pairs of key and cell that it was told of.
+/// What a caller knows between its calls. Contracts see a record of plain data: the session's number, the number of its
+/// last call, the last position, the routes of the 64 slots, and the pairs of key and cell that it was told of.
 ///
-/// A route is a guess: a call that comes to a lane that doesn't own the key's slot is refused there, and the session then looks at
-/// the slot's deed.
+/// A route is a guess: a call that comes to a lane that doesn't own the key's slot is refused there, and the session
+/// then looks at the slot's deed.
 #[derive(Drop)]
 pub struct Session {
     session: u32,
@@ -30,14 +30,15 @@ impl Model for Session {
 
     ghost Value = { SessionState };
 
-    ghost view = { λ a. record { session = a.session; number = a.number; last = a.last; routes = a.routes; hints = a.hints.items } };
+    ghost view = { λ a.
+        record { session = a.session; number = a.number; last = a.last; routes = a.routes; hints = a.hints.items } };
 
     ghost invariant = { λ a. length a.routes ≡ 64 };
 }
 
 impl Session {
-    /// A session with this number, from 1 to 1,000, that has made no call. Its last position is its own with stamp 0 and rank 0, no
-    /// route is known, and there are no hints. It takes no memory before it is given hints.
+    /// A session with this number, from 1 to 1,000, that has made no call. Its last position is its own with stamp 0
+    /// and rank 0, no route is known, and there are no hints. It takes no memory before it is given hints.
     pub fn new(alloc: Global, number: u32) -> Session
         requires least { 1 ≤ number }
         requires most { number ≤ 1000 }
@@ -56,8 +57,8 @@ impl Session {
         }
     }
 
-    /// Gives the next call its number, which is one more than the last one's, and what the session shows with it. The condition is
-    /// that fewer than 2^32 - 1 calls were numbered.
+    /// Gives the next call its number, which is one more than the last one's, and what the session shows with it. The
+    /// condition is that fewer than 2^32 - 1 calls were numbered.
     pub fn view(&mut self, key: u64) -> SessionView
         requires { self.old.number < 2 ^ 32 - 1 }
         ensures after { self.new ≡ numbered self.old }
@@ -67,8 +68,8 @@ impl Session {
         self.again(key)
     }
 
-    /// What the session shows with a further attempt at its last call, under the same number. The hint is the cell of the first pair
-    /// with the key, or none.
+    /// What the session shows with a further attempt at its last call, under the same number. The hint is the cell of
+    /// the first pair with the key, or none.
     pub fn again(&self, key: u64) -> SessionView
         ensures { result ≡ view_of self.now key }
     {
@@ -87,8 +88,8 @@ impl Session {
         self.last
     }
 
-    /// Tells the session a position, of a reply to a call of its own or from another session: its last position is the greater of the
-    /// two.
+    /// Tells the session a position, of a reply to a call of its own or from another session: its last position is the
+    /// greater of the two.
     pub fn told(&mut self, position: Position)
         ensures { self.new ≡ heard self.old position }
     {
@@ -97,7 +98,8 @@ impl Session {
         }
     }
 
-    /// The lane, from 1 to 63, that the session sends its calls on keys of a slot (from 0 to 63) to; 0 where it knows none.
+    /// The lane, from 1 to 63, that the session sends its calls on keys of a slot (from 0 to 63) to; 0 where it knows
+    /// none.
     pub fn route(&self, slot: u8) -> u8
         requires { slot < 64 }
         ensures value { result ≡ slice_index self.now.routes slot }
@@ -106,13 +108,14 @@ impl Session {
         self.routes[slot as usize]
     }
 
-    /// Learns the route of a slot (from 0 to 63) from the word of its deed: the lane that owns it, or the one that the word names
-    /// otherwise, which is 0 where the slot is nobody's. All other routes stay.
+    /// Learns the route of a slot (from 0 to 63) from the word of its deed: the lane that owns it, or the one that the
+    /// word names otherwise, which is 0 where the slot is nobody's. All other routes stay.
     pub fn refresh(&mut self, slot: u8, deed_word: u64)
         requires { slot < 64 }
         ensures after { self.new ≡ refreshed self.old slot deed_word }
         ensures route { slice_index self.new.routes slot ≡ (deed_of deed_word).lane }
-        ensures others { (s : ℕ) → s ≢ slot → slice_index self.new.routes s ≡ slice_index self.old.routes s }
+        ensures others { (s : ℕ) → s ≢ slot
+            → slice_index self.new.routes s ≡ slice_index self.old.routes s }
     {
         self.routes[slot as usize] = Deed::read(deed_word).lane;
     }
