@@ -23,7 +23,8 @@ pub fn determined()
 {}
 
 /// A lane that is added takes slots only for itself: a slot that doesn't go to it keeps its owner. One that is taken
-/// out gives up its own slots alone: a slot of another lane keeps its owner.
+/// out gives up its own slots alone: a slot of another lane keeps its owner. Its own go to lanes that are left, as an
+/// owner is live.
 pub fn moves()
     ensures added { (lane : ℕ) (fewer more : List ℕ) (slot a b : ℕ) → IsOneMore lane fewer more
         → IsOwner fewer slot a → IsOwner more slot b → b ≢ lane → b ≡ a }
