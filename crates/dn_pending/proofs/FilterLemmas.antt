@@ -1,13 +1,13 @@
-use Rattle.std.proofs.Common.{◌≡◌, ◌≢◌, ℕ, ◌+◌, ◌<◌, ◌==◌, ◌&&◌, ◌⊎◌, inl, inr, Bool, true, false, List, length, refl, sym, ap, ◌∙◌, arith, bit_and, bit_or, slice_index, slice_set, min, max}
+use Rattle.std.proofs.Common.{◌≡◌, ℕ, ◌-◌, ◌<◌, ◌≤◌, ◌==◌, ◌&&◌, ◌⊎◌, inl, inr, Bool, true, false, List, length, refl, sym, ap, ◌∙◌, arith, bit_and, bit_or, slice_index, slice_set, min, max}
 use Rattle.std.proofs.lemmas.Grind.{common_steps}
 use Rattle.std.proofs.lemmas.Bool.{eqb-true, eq-eqb, cases_eq}
 use Rattle.std.proofs.lemmas.List.{get_or-set_same, get_or-set_other, length-set}
-use Rattle.std.proofs.lemmas.Nat.{and_or_self}
+use Rattle.std.proofs.lemmas.Nat.{and_le_r, and_or_self, le_or_l, le_or_r}
 use Rattle.std.proofs.lemmas.Nat.Bits.{bit_at_and, bit_at_or, same_from_bits}
 use Rattle.std.specs.Int.{bit_at}
 use Rattle.dn_pending.specs.declared.filters.Bit.{Bit}
 use Rattle.dn_pending.specs.declared.filters.KeyBits.{KeyBits}
-use Rattle.dn_pending.specs.Filter.{is_set, may_hold, set_in, added_to, AreInside}
+use Rattle.dn_pending.specs.Filter.{is_set, lack_of, may_hold, set_in, added_to, AreInside}
 
 -- a bit that is set in both numbers stays set beside the bits of a third
 min_max_kept : (x y m : ℕ) → min x m ≡ m → min (max x y) m ≡ m
@@ -88,3 +88,45 @@ may_hold-kept words bits other h l s =
         (is_set-added words bits other.second h l each.1)
         (is_set-added words bits other.third h l each.2)
         (is_set-added words bits other.fourth h l each.3)
+
+-- a bit of which nothing lacks is set, and the other way round
+set_from_none : (words : List ℕ) (bit : Bit) → lack_of words bit ≡ 0 → is_set words bit ≡ true
+set_from_none words bit h = eq-eqb _ _ (whole (bit_and (slice_index words bit.word) bit.mask) bit.mask (and_le_r (slice_index words bit.word) bit.mask) h)
+  where
+    whole : (part mask : ℕ) → part ≤ mask → mask - part ≡ 0 → part ≡ mask
+    whole part mask h e = omega arith
+
+none_from_set : (words : List ℕ) (bit : Bit) → is_set words bit ≡ true → lack_of words bit ≡ 0
+none_from_set words bit h = nothing (bit_and (slice_index words bit.word) bit.mask) bit.mask (eqb-true _ _ h)
+  where
+    nothing : (part mask : ℕ) → part ≡ mask → mask - part ≡ 0
+    nothing part mask e = omega arith
+
+-- four numbers of which none has a bit
+or_none : (a b c d : ℕ) → a ≡ 0 → b ≡ 0 → c ≡ 0 → d ≡ 0 → bit_or (bit_or a b) (bit_or c d) ≡ 0
+or_none a b c d p q r s = ap (λ n. bit_or (bit_or n b) (bit_or c d)) p ∙ ap (λ n. bit_or (bit_or 0 n) (bit_or c d)) q ∙ ap (λ n. bit_or (bit_or 0 0) (bit_or n d)) r ∙ ap (λ n. bit_or (bit_or 0 0) (bit_or 0 n)) s
+
+none_or : (a b : ℕ) → bit_or a b ≡ 0 → (a ≡ 0) × (b ≡ 0)
+none_or a b h = (omega (arith, h, le_or_l a b), omega (arith, h, le_or_r a b))
+
+same_test : (x y : Bool) → (x ≡ true → y ≡ true) → (y ≡ true → x ≡ true) → x ≡ y
+same_test true true f g = refl
+same_test false false f g = refl
+same_test true false f g = sym (f refl)
+same_test false true f g = g refl
+
+-- all four are set exactly where nothing lacks
+pub may_hold-lacks : (words : List ℕ) (bits : KeyBits) → (bit_or (bit_or (lack_of words bits.first) (lack_of words bits.second)) (bit_or (lack_of words bits.third) (lack_of words bits.fourth)) == 0) ≡ may_hold words bits
+may_hold-lacks words bits = same_test _ _ all none
+  where
+    all : (bit_or (bit_or (lack_of words bits.first) (lack_of words bits.second)) (bit_or (lack_of words bits.third) (lack_of words bits.fourth)) == 0) ≡ true → may_hold words bits ≡ true
+    all h =
+        let both = none_or (bit_or (lack_of words bits.first) (lack_of words bits.second)) (bit_or (lack_of words bits.third) (lack_of words bits.fourth)) (eqb-true _ _ h) in
+        let front = none_or (lack_of words bits.first) (lack_of words bits.second) both.0 in
+        let back = none_or (lack_of words bits.third) (lack_of words bits.fourth) both.1 in
+        and_four _ _ _ _ (set_from_none words bits.first front.0) (set_from_none words bits.second front.1) (set_from_none words bits.third back.0) (set_from_none words bits.fourth back.1)
+
+    none : may_hold words bits ≡ true → (bit_or (bit_or (lack_of words bits.first) (lack_of words bits.second)) (bit_or (lack_of words bits.third) (lack_of words bits.fourth)) == 0) ≡ true
+    none h =
+        let each = four_and _ _ _ _ h in
+        eq-eqb _ _ (or_none _ _ _ _ (none_from_set words bits.first each.0) (none_from_set words bits.second each.1) (none_from_set words bits.third each.2) (none_from_set words bits.fourth each.3))

@@ -1,4 +1,4 @@
-use Rattle.std.specs.Prelude.{ℕ, ◌+◌, ◌*◌, ◌/◌, ◌%◌, ◌^◌, ◌<◌, ◌==◌, ◌&&◌, Bool, List, bit_and, bit_or, slice_index, slice_set}
+use Rattle.std.specs.Prelude.{ℕ, ◌-◌, ◌/◌, ◌%◌, ◌^◌, ◌<◌, ◌==◌, ◌&&◌, Bool, List, bit_and, bit_or, slice_index, slice_set}
 use Rattle.dn_word.specs.Hash.{hash_of}
 use Rattle.dn_pending.specs.declared.filters.Bit.{Bit}
 use Rattle.dn_pending.specs.declared.filters.KeyBits.{KeyBits}
@@ -20,7 +20,11 @@ bits_of key = record {
 abbrev pub is_set : List ℕ → Bit → Bool
 is_set words bit = bit_and (slice_index words bit.word) bit.mask == bit.mask
 
--- whether all four are
+-- what the words lack of the bit
+abbrev pub lack_of : List ℕ → Bit → ℕ
+lack_of words bit = bit.mask - bit_and (slice_index words bit.word) bit.mask
+
+-- whether all four are set
 abbrev pub may_hold : List ℕ → KeyBits → Bool
 may_hold words bits = is_set words bits.first && is_set words bits.second && is_set words bits.third && is_set words bits.fourth
 

@@ -1,5 +1,5 @@
 ghost use Rattle.std.specs.Prelude.{◌≡◌, ◌<◌, replicate, length};
-ghost use Rattle.dn_pending.specs.Filter.{bit_of, bits_of, is_set, may_hold, set_in, added_to, AreInside};
+ghost use Rattle.dn_pending.specs.Filter.{bit_of, bits_of, lack_of, may_hold, set_in, added_to, AreInside};
 
 use dn_word::hash;
 
@@ -65,12 +65,12 @@ impl Filter {
         Filter { words: [0; WORDS] }
     }
 
-    /// Whether the bit is set.
-    fn has(&self, bit: Bit) -> bool
+    /// What the filter lacks of the bit: 0 exactly where it is set.
+    fn lacks(&self, bit: Bit) -> u64
         requires { bit.word < 16 }
-        ensures { result ≡ is_set self.now.words bit }
+        ensures { result ≡ lack_of self.now.words bit }
     {
-        self.words[bit.word] & bit.mask == bit.mask
+        bit.mask - (self.words[bit.word] & bit.mask)
     }
 
     /// Sets the bit.
@@ -81,12 +81,15 @@ impl Filter {
         self.words[bit.word] |= bit.mask;
     }
 
-    /// Whether the key of these bits may have been added, which it wasn't where one of them isn't set.
+    /// Whether the key of these bits may have been added, which it wasn't where one of them isn't set. All four are tested
+    /// at once: a walk asks many filters, and a branch for each bit would often be foretold wrongly.
     pub fn may_hold(&self, bits: &KeyBits) -> bool
         requires { AreInside bits.now }
         ensures { result ≡ may_hold self.now.words bits.now }
     {
-        self.has(bits.first) & self.has(bits.second) & self.has(bits.third) & self.has(bits.fourth)
+        let front = self.lacks(bits.first) | self.lacks(bits.second);
+        let back = self.lacks(bits.third) | self.lacks(bits.fourth);
+        front | back == 0
     }
 
     /// Adds the key of these bits.

@@ -16,7 +16,7 @@ pub struct Segment {
     /// The segment's number in the lane's log.
     pub number: u32,
     /// How many entries were added, at most 1,024. Of the oldest segment some may be dropped.
-    pub count: usize,
+    pub count: u32,
     /// The keys that were added.
     pub filter: Filter,
 }
@@ -133,7 +133,7 @@ pub fn last_in(segments: &[Segment], entries: &[Entry], key: u64) -> Option<u32>
     let mut unseen = segments;
     let mut left = entries;
     while let Some((newest, older)) = unseen.split_last() {
-        let (earlier, own) = left.split_at(left.len().saturating_sub(newest.count));
+        let (earlier, own) = left.split_at(left.len().saturating_sub(newest.count as usize));
         if newest.filter.may_hold(&bits) {
             let found = last_of(own, key);
             if found.is_some() {

@@ -1,32 +1,49 @@
-//! Measures.
+//! Measures the look-up in a pending table against a walk over one list of the same entries.
+//!
+//! With the word `pending` or `list` it looks 100,000 keys up among 30,000 entries that lie 8 words apart, over 10,000 keys, in
+//! that way, and prints the sum of the places found; without a word it does both on a hundredth of that.
 #![tactic(auto)]
 
-use dn_pending::{Entry, Pending, last_of};
+mod loads;
+
+use crate::loads::{Load, entries, sum_of_list, sum_of_table, table};
+use anyhow::bail;
 use std::env;
 
-fn key_of(number: u32) -> u64 {
-    (u64::from(number) * 7919 % 10_000) + 1
+/// The load that is measured.
+const WHOLE: Load = Load {
+    entries: 30_000,
+    keys: 10_000,
+    look_ups: 100_000,
+};
+
+/// The load that shows both ways in no time.
+const SMALL: Load = Load {
+    entries: 300,
+    keys: 100,
+    look_ups: 1000,
+};
+
+fn pending(rt: &HostRuntime, load: &Load) -> anyhow::Result<()> {
+    let sum = sum_of_table(&table(rt.alloc(), load)?, load);
+    println!(rt; "pending {sum}")?;
+    Ok(())
 }
 
-fn main(rt: HostRuntime) {
-    let mut args = env::args(&rt).unwrap();
-    let list = args.nth(1).unwrap().as_str() == "list";
-    let mut state = 7u64;
-    let mut table = Pending::new(rt.alloc()).unwrap();
-    let mut entries = Vec::new(rt.alloc());
-    for n in 0..30_000u32 {
-        state = state.wrapping_mul(6364136223846793005).wrapping_add(1442695040888963407);
-        let key = (state >> 33) % 10_000 + 1;
-        table.reserve().unwrap();
-        table.add(key, 8 * n);
-        entries.push(Entry { key, at: 8 * n }).unwrap();
+fn list(rt: &HostRuntime, load: &Load) -> anyhow::Result<()> {
+    let sum = sum_of_list(entries(rt.alloc(), load)?.as_slice(), load);
+    println!(rt; "list {sum}")?;
+    Ok(())
+}
+
+fn main(rt: HostRuntime) -> anyhow::Result<()> {
+    let Some(word) = env::args(&rt)?.nth(1) else {
+        pending(&rt, &SMALL)?;
+        return list(&rt, &SMALL);
+    };
+    match word.as_str() {
+        "pending" => pending(&rt, &WHOLE),
+        "list" => list(&rt, &WHOLE),
+        _ => bail!("the one word is pending or list"),
     }
-    let mut sum = 0u64;
-    for n in 0..100_000u32 {
-        state = state.wrapping_mul(6364136223846793005).wrapping_add(1442695040888963407);
-        let key = (state >> 33) % 10_000 + 1;
-        let found = if list { last_of(entries.as_slice(), key) } else { table.last(key) };
-        sum += u64::from(found.unwrap_or(1));
-    }
-    println!(rt; "{sum}").unwrap();
 }
