@@ -1,10 +1,10 @@
-use Rattle.std.proofs.Common.{◌≡◌, ℕ, suc, zero, min, None, ◌+◌, ◌-◌, ◌*◌, ◌/◌, ◌%◌, ◌<◌, ◌≤◌, Bool, true, false, List, [], ◌∷◌, ◌++◌, length, take, drop, reverse, refl, sym, ap, ◌∙◌, arith, subst, add-one, slice_index_or, All, AllPairs, nat_lt, nat_le, if◌then◌else◌, replicate, find, ◌==◌}
+use Rattle.std.proofs.Common.{◌≡◌, ℕ, suc, zero, min, None, ◌+◌, ◌-◌, ◌/◌, ◌%◌, ◌<◌, ◌≤◌, Bool, true, false, List, [], ◌∷◌, ◌++◌, length, take, drop, reverse, refl, sym, ap, ◌∙◌, arith, subst, add-one, All, nat_lt, nat_le, if◌then◌else◌, replicate, find, ◌==◌}
 use Rattle.std.proofs.lemmas.Bool.{ltb-true}
 use Rattle.std.proofs.lemmas.List.{drop_all, length-replicate, length-reverse, length-take}
 use Rattle.std.specs.Option.{option_map}
 use Rattle.std.proofs.lemmas.List.Kept.{AllPairs-filter}
 use Rattle.std.proofs.lemmas.List.Quantifiers.{all_pairs_push}
-use Rattle.std.proofs.lemmas.List.Elements.{All-cons, All-head, All-tail, All-take, All-drop}
+use Rattle.std.proofs.lemmas.List.Elements.{All-cons, All-head, All-take, All-drop}
 use Rattle.std.specs.List.{prefix_len}
 use Rattle.dn_pending.specs.declared.entries.Entry.{Entry}
 use Rattle.dn_pending.specs.declared.segments.Segment.{Segment}
@@ -21,9 +21,10 @@ use Rattle.dn_pending.proofs.ListLemmas.{All-reverse, take-nil, reverse-push, re
 -- the segments still cover what is left where the oldest entries are dropped
 pub Covers-take : (k : ℕ) (segments : List Segment) (entries : List Entry) → Covers segments entries → Covers segments (take k entries)
 Covers-take k [] entries h = ap (take k) h ∙ take-nil k
-Covers-take k (s ∷ older) entries h =
-    (subst (All (IsOf s)) (sym (take-take_swap s.count k entries)) (All-take (IsOf s) k (take s.count entries) h.0),
-    subst (Covers older) (sym (drop-take_less s.count k entries)) (Covers-take (k - s.count) older (drop s.count entries) h.1))
+Covers-take k (s ∷ older) entries h = (
+  subst (All (IsOf s)) (sym (take-take_swap s.count k entries)) (All-take (IsOf s) k (take s.count entries) h.0),
+  subst (Covers older) (sym (drop-take_less s.count k entries)) (Covers-take (k - s.count) older (drop s.count entries) h.1),
+)
 
 -- an entry at the mark or past it is of no segment that ends below
 past_segment : (at mark number : ℕ) → mark ≤ at → number < mark / 1024 → at / 1024 ≡ number → ⊥
@@ -51,7 +52,7 @@ Covers-shed_all (s ∷ segments) mark entries past h = by_test (nat_lt s.number 
     by_test : (b : Bool) → nat_lt s.number (mark / 1024) ≡ b → (Covers (reverse segments) entries → Covers (reverse (drop (prefix_len (λ (s : Segment). nat_lt s.number (mark / 1024)) segments) segments)) entries) → Covers (reverse (drop (if b then 1 + prefix_len (λ (s : Segment). nat_lt s.number (mark / 1024)) segments else 0) (s ∷ segments))) entries
     by_test true t more =
         subst (λ k. Covers (reverse (drop k (s ∷ segments))) entries) (suc_one (prefix_len (λ (s : Segment). nat_lt s.number (mark / 1024)) segments))
-            (more (Covers-shed (reverse segments) s mark entries (ltb-true s.number (mark / 1024) t) past (subst (λ ss. Covers ss entries) (reverse-oldest s segments) h)))
+        (more (Covers-shed (reverse segments) s mark entries (ltb-true s.number (mark / 1024) t) past (subst (λ ss. Covers ss entries) (reverse-oldest s segments) h)))
     by_test false t more = h
 
 -- what is known of the newest segment stays where the oldest entries and segments are dropped
@@ -67,19 +68,21 @@ IsOpen-take (suc k) (suc j) (s ∷ segments) (e ∷ entries) h o = o
 
 -- the first entry of a segment
 pub Covers-first : (s : Segment) (e : Entry) (segments : List Segment) (entries : List Entry) → s.count ≡ 1 → IsOf s e → Covers segments entries → Covers (s ∷ segments) (e ∷ entries)
-Covers-first s e segments entries one own h =
-    (subst (λ n. All (IsOf s) (take n (e ∷ entries))) (sym one) (All-cons (IsOf s) e [] own (λ k d h. absurd (none_below k h))),
-    subst (λ n. Covers segments (drop n (e ∷ entries))) (sym one) h)
+Covers-first s e segments entries one own h = (
+  subst (λ n. All (IsOf s) (take n (e ∷ entries))) (sym one) (All-cons (IsOf s) e [] own (λ k d h. absurd (none_below k h))),
+  subst (λ n. Covers segments (drop n (e ∷ entries))) (sym one) h,
+)
   where
     none_below : (k : ℕ) → k < 0 → ⊥
     none_below k h = omega arith
 
 -- one more entry of a segment
 pub Covers-more : (s t : Segment) (e : Entry) (older : List Segment) (entries : List Entry) → t.count ≡ s.count + 1 → IsOf t e → ((x : Entry) → IsOf s x → IsOf t x) → Covers (s ∷ older) entries → Covers (t ∷ older) (e ∷ entries)
-Covers-more s t e older entries more own kept h =
-    (subst (λ n. All (IsOf t) (take n (e ∷ entries))) (sym (more ∙ add-one s.count))
-        (All-cons (IsOf t) e (take s.count entries) own (λ k d i. kept _ (h.0 k d i))),
-    subst (λ n. Covers older (drop n (e ∷ entries))) (sym (more ∙ add-one s.count)) h.1)
+Covers-more s t e older entries more own kept h = (
+  subst (λ n. All (IsOf t) (take n (e ∷ entries))) (sym (more ∙ add-one s.count))
+      (All-cons (IsOf t) e (take s.count entries) own (λ k d i. kept _ (h.0 k d i))),
+  subst (λ n. Covers older (drop n (e ∷ entries))) (sym (more ∙ add-one s.count)) h.1,
+)
 
 -- what is left of a table whose entries below the mark are dropped, with the segments that end below it
 pub IsFit-shed : (segments : List Segment) (mark : ℕ) (entries left : List Entry) → IsFit segments entries → left ≡ kept_from mark entries → 1 ≤ length left → IsFit (drop (prefix_len (λ (s : Segment). nat_lt s.number (mark / 1024)) segments) segments) left
@@ -95,7 +98,7 @@ IsFit-shed segments mark entries left fit is some =
           (subst (Covers (reverse segments)) (sym same) (Covers-take (length entries - gone) (reverse segments) (reverse entries) fit.covers));
       newest = subst (λ ss. IsOpen ss (reverse left)) (sym (reverse-drop passed segments))
           (subst (IsOpen (take (length segments - passed) (reverse segments))) (sym same)
-              (IsOpen-take (length entries - gone) (length segments - passed) (reverse segments) (reverse entries) more fit.newest))
+          (IsOpen-take (length entries - gone) (length segments - passed) (reverse segments) (reverse entries) more fit.newest));
     }
   where
     enough : (a k n : ℕ) → 1 ≤ a → a ≡ min k n → 1 ≤ k
@@ -106,11 +109,12 @@ pub IsFit-none : (segments : List Segment) (left : List Entry) → length left �
 IsFit-none segments [] none = record {
   rising = λ i j d h k. absurd (below_none j k);
   covers = subst (λ ss. Covers (reverse ss) []) (sym (drop_all (length segments) segments (same_le (length segments)))) refl;
-  newest = subst (λ ss. IsOpen (reverse ss) []) (sym (drop_all (length segments) segments (same_le (length segments)))) tt
+  newest = subst (λ ss. IsOpen (reverse ss) []) (sym (drop_all (length segments) segments (same_le (length segments)))) tt;
 }
   where
     below_none : (j : ℕ) → j < 0 → ⊥
     below_none j h = omega arith
+
     same_le : (n : ℕ) → n ≤ n
     same_le n = omega arith
 IsFit-none segments (e ∷ left) none = absurd (some_left (length left) none)
@@ -133,9 +137,9 @@ room_in s older (e ∷ entries) at covers newest past there = room_by s e entrie
 pub room_left : (front : List Segment) (s : Segment) (entries : List Entry) (at : ℕ) → IsFit (front ++ s ∷ []) entries → All (λ (e : Entry). e.at < at) entries → s.number ≡ at / 1024 → s.count ≤ at % 1024
 room_left front s entries at fit past there =
     room_in s (reverse front) (reverse entries) at
-        (subst (λ ss. Covers ss (reverse entries)) (reverse-push front s) fit.covers)
-        (subst (λ ss. IsOpen ss (reverse entries)) (reverse-push front s) fit.newest)
-        (All-reverse (λ (e : Entry). e.at < at) entries past) there
+    (subst (λ ss. Covers ss (reverse entries)) (reverse-push front s) fit.covers)
+    (subst (λ ss. IsOpen ss (reverse entries)) (reverse-push front s) fit.newest)
+    (All-reverse (λ (e : Entry). e.at < at) entries past) there
 
 words_in : (s : Segment) (older : List Segment) (entries : List Entry) → IsOpen (s ∷ older) entries → length s.filter.words ≡ 16
 words_in s older [] newest = absurd newest
@@ -167,7 +171,7 @@ IsFit-more front s entries key at inside fit past there =
       covers = subst (λ ss. Covers ss (reverse (entries ++ e ∷ []))) (sym (reverse-push front t)) (subst (Covers (t ∷ reverse front)) (sym (reverse-push entries e))
           (Covers-more s t e (reverse front) (reverse entries) refl own (λ x h. record { there = h.there; held = may_hold-kept s.filter.words (bits_of key) (bits_of x.key) inside words h.held }) covers));
       newest = subst (λ ss. IsOpen ss (reverse (entries ++ e ∷ []))) (sym (reverse-push front t)) (subst (IsOpen (t ∷ reverse front)) (sym (reverse-push entries e))
-          (few, length-added s.filter.words (bits_of key) ∙ words))
+          (few, length-added s.filter.words (bits_of key) ∙ words));
     }
 
 -- and one with which a segment begins
@@ -183,7 +187,7 @@ IsFit-first segments entries key at inside fit past =
       covers = subst (λ ss. Covers ss (reverse (entries ++ e ∷ []))) (sym (reverse-push segments t)) (subst (Covers (t ∷ reverse segments)) (sym (reverse-push entries e))
           (Covers-first t e (reverse segments) (reverse entries) refl own fit.covers));
       newest = subst (λ ss. IsOpen ss (reverse (entries ++ e ∷ []))) (sym (reverse-push segments t)) (subst (IsOpen (t ∷ reverse segments)) (sym (reverse-push entries e))
-          (few, length-added (replicate 16 0) (bits_of key) ∙ words))
+          (few, length-added (replicate 16 0) (bits_of key) ∙ words));
     }
 
 -- the walk: the newest segment's entries are the last ones, and the other segments cover the rest

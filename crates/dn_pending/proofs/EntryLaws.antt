@@ -1,7 +1,5 @@
-use Rattle.std.proofs.Common.{◌≡◌, ℕ, suc, zero, ◌+◌, ◌-◌, ◌<◌, ◌≤◌, ◌==◌, Bool, true, false, Option, Some, None, ◌⊎◌, inl, inr, List, [], ◌∷◌, ◌++◌, length, take, drop, reverse, refl, sym, ap, ◌∙◌, arith, subst, slice_index_or, All, AllPairs, Contains, filter, find, nat_lt, nat_le, IsSomeAnd, IfSome, if◌then◌else◌, is_some}
-use Rattle.std.proofs.lemmas.Grind.{common_steps}
+use Rattle.std.proofs.Common.{◌≡◌, ℕ, suc, zero, ◌+◌, ◌-◌, ◌<◌, ◌≤◌, ◌==◌, Bool, true, false, Option, Some, None, ◌⊎◌, inl, inr, List, [], ◌∷◌, ◌++◌, length, drop, reverse, refl, sym, ap, ◌∙◌, arith, subst, slice_index_or, All, AllPairs, Contains, find, nat_lt, nat_le, IsSomeAnd, IfSome, if◌then◌else◌, is_some}
 use Rattle.std.proofs.lemmas.Bool.{eqb-true, eq-eqb, ltb-true, ltb-false, lt-leb, le-leb, leb-true}
-use Rattle.std.proofs.lemmas.Bool.Decides.{leb_tells}
 use Rattle.std.proofs.lemmas.List.{reverse-append, reverse-reverse, length-reverse, get_or-reverse}
 use Rattle.std.proofs.lemmas.List.Elements.{All-cons, All-head, All-tail, Contains-append_cases, Contains-append_right, filter_passes}
 use Rattle.std.proofs.lemmas.List.Folds.{find-append}
@@ -92,14 +90,14 @@ found_greatest key (entry ∷ entries) at falls held =
 pub last_of-greatest : (key : ℕ) (entries : List Entry) (at : ℕ) → IsRising entries → Contains entries (record { key = key; at = at }) → IsSomeAnd (last_of key entries) (λ last. at ≤ last)
 last_of-greatest key entries at rises held =
     found_greatest key (reverse entries) at (falling entries rises)
-        (Contains-reverse (reverse entries) _ (subst (λ (xs : List Entry). Contains xs (record { key = key; at = at })) (sym (reverse-reverse entries)) held))
+    (Contains-reverse (reverse entries) _ (subst (λ (xs : List Entry). Contains xs (record { key = key; at = at })) (sym (reverse-reverse entries)) held))
 
 -- entries that all lie at the mark or past it are all kept
 kept_all : (mark : ℕ) (entries : List Entry) → All (λ (e : Entry). mark ≤ e.at) entries → kept_from mark entries ≡ entries
 kept_all mark [] h = refl
 kept_all mark (entry ∷ entries) h =
     ap (λ b. if b then entry ∷ kept_from mark entries else kept_from mark entries) (le-leb mark entry.at (All-head (λ (e : Entry). mark ≤ e.at) entry entries h))
-        ∙ ap (λ es. entry ∷ es) (kept_all mark entries (All-tail (λ (e : Entry). mark ≤ e.at) entry entries h))
+    ∙ ap (λ es. entry ∷ es) (kept_all mark entries (All-tail (λ (e : Entry). mark ≤ e.at) entry entries h))
 
 rising-tail : (entry : Entry) (entries : List Entry) → IsRising (entry ∷ entries) → IsRising entries
 rising-tail entry entries rises i j d h k = rises (suc i) (suc j) d (omega (arith, h)) (omega (arith, k))
@@ -123,12 +121,12 @@ kept_from-front mark (entry ∷ entries) rises = by_test (nat_lt entry.at mark) 
         → kept_from mark (entry ∷ entries) ≡ drop (if b then 1 + prefix_len (λ (e : Entry). nat_lt e.at mark) entries else 0) (entry ∷ entries)
     by_test true t more =
         ap (λ b. if b then entry ∷ kept_from mark entries else kept_from mark entries) (lt-leb mark entry.at (ltb-true entry.at mark t))
-            ∙ more
-            ∙ ap (λ k. drop k (entry ∷ entries)) (suc_one (prefix_len (λ (e : Entry). nat_lt e.at mark) entries))
+        ∙ more
+        ∙ ap (λ k. drop k (entry ∷ entries)) (suc_one (prefix_len (λ (e : Entry). nat_lt e.at mark) entries))
     by_test false t more =
         kept_all mark (entry ∷ entries)
-            (All-cons (λ (e : Entry). mark ≤ e.at) entry entries (ltb-false entry.at mark t)
-                (λ k d h. past (slice_index_or entries k d).at (ltb-false entry.at mark t) (rising-head entry entries rises k d h)))
+        (All-cons (λ (e : Entry). mark ≤ e.at) entry entries (ltb-false entry.at mark t)
+        (λ k d h. past (slice_index_or entries k d).at (ltb-false entry.at mark t) (rising-head entry entries rises k d h)))
 
 -- each entry that is kept lies at the mark or past it
 pub kept_from-past : (mark : ℕ) (entries : List Entry) → All (λ (e : Entry). mark ≤ e.at) (kept_from mark entries)
@@ -138,8 +136,8 @@ kept_from-past mark entries k d h = leb-true mark _ (filter_passes (λ (e : Entr
 pub last_of-append : (key : ℕ) (front back : List Entry) → last_of key (front ++ back) ≡ option_or (last_of key back) (last_of key front)
 last_of-append key front back =
     ap (λ es. option_map (λ (e : Entry). e.at) (find (λ (e : Entry). e.key == key) es)) (reverse-append front back)
-        ∙ ap (option_map (λ (e : Entry). e.at)) (find-append (λ (e : Entry). e.key == key) (reverse back) (reverse front))
-        ∙ map_or (find (λ (e : Entry). e.key == key) (reverse back)) (find (λ (e : Entry). e.key == key) (reverse front))
+    ∙ ap (option_map (λ (e : Entry). e.at)) (find-append (λ (e : Entry). e.key == key) (reverse back) (reverse front))
+    ∙ map_or (find (λ (e : Entry). e.key == key) (reverse back)) (find (λ (e : Entry). e.key == key) (reverse front))
   where
     map_or : (a b : Option Entry) → option_map (λ (e : Entry). e.at) (option_or a b) ≡ option_or (option_map (λ (e : Entry). e.at) a) (option_map (λ (e : Entry). e.at) b)
     map_or (Some e) b = refl
@@ -157,7 +155,7 @@ last_of-none key entries h = ap (option_map (λ (e : Entry). e.at)) (none_of (re
     none_of [] h = refl
     none_of (e ∷ es) h =
         ap (λ b. if b then Some e else find (λ (e : Entry). e.key == key) es) (differs e (All-head (λ (e : Entry). e.key ≡ key → ⊥) e es h) (e.key == key) refl)
-            ∙ none_of es (All-tail (λ (e : Entry). e.key ≡ key → ⊥) e es h)
+        ∙ none_of es (All-tail (λ (e : Entry). e.key ≡ key → ⊥) e es h)
 
 -- a found entry of the back is the last of all
 pub last_of-found : (key : ℕ) (front back : List Entry) (found : Option ℕ) → found ≡ last_of key back → is_some found ≡ true → found ≡ last_of key (front ++ back)

@@ -1,5 +1,4 @@
-use Rattle.std.proofs.Common.{◌≡◌, ℕ, ◌-◌, ◌<◌, ◌≤◌, ◌==◌, ◌&&◌, ◌⊎◌, inl, inr, Bool, true, false, List, length, refl, sym, ap, ◌∙◌, arith, bit_and, bit_or, slice_index, slice_set, min, max}
-use Rattle.std.proofs.lemmas.Grind.{common_steps}
+use Rattle.std.proofs.Common.{◌≡◌, ℕ, ◌-◌, ◌<◌, ◌≤◌, ◌==◌, ◌&&◌, ◌⊎◌, inl, inr, Bool, true, false, List, length, refl, sym, ap, ◌∙◌, arith, bit_and, bit_or, slice_index, min, max}
 use Rattle.std.proofs.lemmas.Bool.{eqb-true, eq-eqb, cases_eq}
 use Rattle.std.proofs.lemmas.List.{get_or-set_same, get_or-set_other, length-set}
 use Rattle.std.proofs.lemmas.Nat.{and_le_r, and_or_self, le_or_l, le_or_r}
@@ -17,7 +16,7 @@ min_max_kept x y m h = omega (arith, h)
 and_or_kept : (x y m : ℕ) → bit_and x m ≡ m → bit_and (bit_or x y) m ≡ m
 and_or_kept x y m h =
     same_from_bits (bit_and (bit_or x y) m) m
-        (λ i. rw (bit_at_and, bit_at_or) (min_max_kept (bit_at x i) (bit_at y i) (bit_at m i) (sym (bit_at_and x m i) ∙ ap (λ n. bit_at n i) h)))
+    (λ i. rw (bit_at_and, bit_at_or) (min_max_kept (bit_at x i) (bit_at y i) (bit_at m i) (sym (bit_at_and x m i) ∙ ap (λ n. bit_at n i) h)))
 
 -- a bit that was set is set
 pub is_set-set_same : (words : List ℕ) (bit : Bit) → bit.word < length words → is_set (set_in words bit) bit ≡ true
@@ -30,8 +29,8 @@ is_set_at words bit word h e = eq-eqb _ _ (ap (λ n. bit_and n bit.mask) e ∙ h
 kept_by_set : (words : List ℕ) (bit other : Bit) → bit.word < length words → is_set words other ≡ true → (other.word ≡ bit.word) ⊎ (other.word ≡ bit.word → ⊥) → is_set (set_in words bit) other ≡ true
 kept_by_set words bit other h s (inl e) =
     is_set_at (set_in words bit) other (bit_or (slice_index words bit.word) bit.mask)
-        (and_or_kept (slice_index words bit.word) bit.mask other.mask (ap (λ n. bit_and (slice_index words n) other.mask) (sym e) ∙ eqb-true _ _ s))
-        (ap (λ n. slice_index (set_in words bit) n) e ∙ get_or-set_same words bit.word _ 0 h)
+    (and_or_kept (slice_index words bit.word) bit.mask other.mask (ap (λ n. bit_and (slice_index words n) other.mask) (sym e) ∙ eqb-true _ _ s))
+    (ap (λ n. slice_index (set_in words bit) n) e ∙ get_or-set_same words bit.word _ 0 h)
 kept_by_set words bit other h s (inr d) =
     is_set_at (set_in words bit) other (slice_index words other.word) (eqb-true _ _ s) (get_or-set_other words bit.word other.word _ 0 d)
 
@@ -64,10 +63,10 @@ may_hold-added words bits h l =
     let l2 : length two ≡ 16 = length-set one _ _ ∙ l1 in
     let l3 : length three ≡ 16 = length-set two _ _ ∙ l2 in
     and_four _ _ _ _
-        (is_set-set three bits.fourth bits.first (omega (arith, h.fourth, l3)) (is_set-set two bits.third bits.first (omega (arith, h.third, l2)) (is_set-set one bits.second bits.first (omega (arith, h.second, l1)) (is_set-set_same words bits.first (omega (arith, h.first, l))))))
-        (is_set-set three bits.fourth bits.second (omega (arith, h.fourth, l3)) (is_set-set two bits.third bits.second (omega (arith, h.third, l2)) (is_set-set_same one bits.second (omega (arith, h.second, l1)))))
-        (is_set-set three bits.fourth bits.third (omega (arith, h.fourth, l3)) (is_set-set_same two bits.third (omega (arith, h.third, l2))))
-        (is_set-set_same three bits.fourth (omega (arith, h.fourth, l3)))
+    (is_set-set three bits.fourth bits.first (omega (arith, h.fourth, l3)) (is_set-set two bits.third bits.first (omega (arith, h.third, l2)) (is_set-set one bits.second bits.first (omega (arith, h.second, l1)) (is_set-set_same words bits.first (omega (arith, h.first, l))))))
+    (is_set-set three bits.fourth bits.second (omega (arith, h.fourth, l3)) (is_set-set two bits.third bits.second (omega (arith, h.third, l2)) (is_set-set_same one bits.second (omega (arith, h.second, l1)))))
+    (is_set-set three bits.fourth bits.third (omega (arith, h.fourth, l3)) (is_set-set_same two bits.third (omega (arith, h.third, l2))))
+    (is_set-set_same three bits.fourth (omega (arith, h.fourth, l3)))
 
 is_set-added : (words : List ℕ) (bits : KeyBits) (bit : Bit) → AreInside bits → length words ≡ 16 → is_set words bit ≡ true → is_set (added_to words bits) bit ≡ true
 is_set-added words bits bit h l s =
@@ -84,10 +83,10 @@ pub may_hold-kept : (words : List ℕ) (bits other : KeyBits) → AreInside bits
 may_hold-kept words bits other h l s =
     let each = four_and _ _ _ _ s in
     and_four _ _ _ _
-        (is_set-added words bits other.first h l each.0)
-        (is_set-added words bits other.second h l each.1)
-        (is_set-added words bits other.third h l each.2)
-        (is_set-added words bits other.fourth h l each.3)
+    (is_set-added words bits other.first h l each.0)
+    (is_set-added words bits other.second h l each.1)
+    (is_set-added words bits other.third h l each.2)
+    (is_set-added words bits other.fourth h l each.3)
 
 -- a bit of which nothing lacks is set, and the other way round
 set_from_none : (words : List ℕ) (bit : Bit) → lack_of words bit ≡ 0 → is_set words bit ≡ true

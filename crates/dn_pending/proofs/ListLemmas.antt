@@ -1,6 +1,5 @@
-use Rattle.std.proofs.Common.{◌≡◌, ℕ, suc, zero, ◌+◌, ◌-◌, ◌<◌, ◌≤◌, List, [], ◌∷◌, ◌++◌, length, take, drop, reverse, refl, sym, ap, ◌∙◌, arith, subst, slice_index_or, All, AllPairs, Contains}
-use Rattle.std.proofs.lemmas.Grind.{common_steps}
-use Rattle.std.proofs.lemmas.List.{length-append, reverse-append, reverse-reverse, length-reverse, take-append-le, drop-append-le, drop_all, take-append-drop, get_or-reverse}
+use Rattle.std.proofs.Common.{◌≡◌, ℕ, suc, zero, ◌+◌, ◌-◌, ◌<◌, ◌≤◌, List, [], ◌∷◌, ◌++◌, length, take, drop, reverse, refl, sym, ap, ◌∙◌, arith, subst, All, Contains}
+use Rattle.std.proofs.lemmas.List.{length-append, reverse-append, reverse-reverse, length-reverse, take-append-le, drop-append-le, drop_all, get_or-reverse}
 use Rattle.std.proofs.Math.Seq.{take-length, take-append_seam}
 
 -- the newest first: an item that is pushed comes first, and the oldest one last
@@ -34,9 +33,9 @@ front_of (suc n) [] = take-nil (0 - suc n)
 front_of (suc n) (x ∷ xs) =
     let fits : length xs - n ≤ length (reverse xs) = omega (arith, length-reverse xs) in
     ap (λ k. take k (reverse (x ∷ xs))) (less-suc (length xs) n)
-        ∙ ap (λ ys. take (length xs - n) ys) (reverse-oldest x xs)
-        ∙ take-append-le (length xs - n) (reverse xs) (x ∷ []) fits
-        ∙ front_of n xs
+    ∙ ap (λ ys. take (length xs - n) ys) (reverse-oldest x xs)
+    ∙ take-append-le (length xs - n) (reverse xs) (x ∷ []) fits
+    ∙ front_of n xs
 
 back_of : {X : Type 0} (n : ℕ) (xs : List X) → drop (length xs - n) (reverse xs) ≡ reverse (take n xs)
 back_of zero xs = drop_all (length xs - 0) (reverse xs) (omega (arith, length-reverse xs))
@@ -44,24 +43,24 @@ back_of (suc n) [] = drop-nil (0 - suc n)
 back_of (suc n) (x ∷ xs) =
     let fits : length xs - n ≤ length (reverse xs) = omega (arith, length-reverse xs) in
     ap (λ k. drop k (reverse (x ∷ xs))) (less-suc (length xs) n)
-        ∙ ap (λ ys. drop (length xs - n) ys) (reverse-oldest x xs)
-        ∙ drop-append-le (length xs - n) (reverse xs) (x ∷ []) fits
-        ∙ ap (λ ys. ys ++ x ∷ []) (back_of n xs)
-        ∙ sym (reverse-oldest x (take n xs))
+    ∙ ap (λ ys. drop (length xs - n) ys) (reverse-oldest x xs)
+    ∙ drop-append-le (length xs - n) (reverse xs) (x ∷ []) fits
+    ∙ ap (λ ys. ys ++ x ∷ []) (back_of n xs)
+    ∙ sym (reverse-oldest x (take n xs))
 
 pub reverse-front : {X : Type 0} (n : ℕ) (xs : List X) → reverse (take (length xs - n) xs) ≡ drop n (reverse xs)
 reverse-front n xs =
     ap (λ ys. reverse (take (length xs - n) ys)) (sym (reverse-reverse xs))
-        ∙ ap (λ k. reverse (take (k - n) (reverse (reverse xs)))) (sym (length-reverse xs))
-        ∙ ap reverse (front_of n (reverse xs))
-        ∙ reverse-reverse (drop n (reverse xs))
+    ∙ ap (λ k. reverse (take (k - n) (reverse (reverse xs)))) (sym (length-reverse xs))
+    ∙ ap reverse (front_of n (reverse xs))
+    ∙ reverse-reverse (drop n (reverse xs))
 
 pub reverse-back : {X : Type 0} (n : ℕ) (xs : List X) → reverse (drop (length xs - n) xs) ≡ take n (reverse xs)
 reverse-back n xs =
     ap (λ ys. reverse (drop (length xs - n) ys)) (sym (reverse-reverse xs))
-        ∙ ap (λ k. reverse (drop (k - n) (reverse (reverse xs)))) (sym (length-reverse xs))
-        ∙ ap reverse (back_of n (reverse xs))
-        ∙ reverse-reverse (take n (reverse xs))
+    ∙ ap (λ k. reverse (drop (k - n) (reverse (reverse xs)))) (sym (length-reverse xs))
+    ∙ ap reverse (back_of n (reverse xs))
+    ∙ reverse-reverse (take n (reverse xs))
 
 -- what is left behind the n oldest items, the newest first
 pub reverse-drop : {X : Type 0} (n : ℕ) (xs : List X) → reverse (drop n xs) ≡ take (length xs - n) (reverse xs)
@@ -97,8 +96,8 @@ All-reverse P xs h k d i =
 pub take-front : {X : Type 0} (front : List X) (x : X) (xs : List X) → xs ≡ front ++ x ∷ [] → take (length xs - 1) xs ≡ front
 take-front front x xs e =
     ap (λ ys. take (length ys - 1) ys) e
-        ∙ ap (λ n. take n (front ++ x ∷ [])) (one_less (length (front ++ x ∷ [])) (length front) (length-append front (x ∷ [])))
-        ∙ take-append_seam front (x ∷ [])
+    ∙ ap (λ n. take n (front ++ x ∷ [])) (one_less (length (front ++ x ∷ [])) (length front) (length-append front (x ∷ [])))
+    ∙ take-append_seam front (x ∷ [])
   where
     one_less : (n k : ℕ) → n ≡ k + 1 → n - 1 ≡ k
     one_less n k h = omega arith

@@ -1,4 +1,4 @@
-use Rattle.std.specs.Prelude.{◌≡◌, ◌≤◌, ◌+◌, ◌%◌, ℕ, ◌/◌, List, [], ◌∷◌, All, take, drop, true, length, reverse}
+use Rattle.std.specs.Prelude.{◌≡◌, ◌≤◌, ◌+◌, ◌%◌, ◌/◌, List, [], ◌∷◌, All, take, drop, true, length, reverse}
 use Rattle.dn_pending.specs.declared.entries.Entry.{Entry}
 use Rattle.dn_pending.specs.declared.segments.Segment.{Segment}
 use Rattle.dn_pending.specs.Entries.{IsRising}

@@ -26,9 +26,9 @@ impl Segment {
     pub fn first(number: u32, bits: &KeyBits) -> Segment
         requires { AreInside bits.now }
         ensures { result ≡ record {
-            number = number;
-            count = 1;
-            filter = record { words = added_to (replicate 16 0) bits.now };
+          number = number;
+          count = 1;
+          filter = record { words = added_to (replicate 16 0) bits.now };
         } }
     {
         let mut filter = Filter::new();
@@ -45,9 +45,9 @@ impl Segment {
         requires inside { AreInside bits.now }
         requires room { self.count < 1024 }
         ensures { result ≡ record {
-            number = self.number;
-            count = self.count + 1;
-            filter = record { words = added_to self.filter.words bits.now };
+          number = self.number;
+          count = self.count + 1;
+          filter = record { words = added_to self.filter.words bits.now };
         } }
     {
         let mut filter = self.filter;

@@ -77,7 +77,12 @@ fn keys_whose_bits_others_set(rt: HostRuntime) -> Result<(), Fail> {
         }
     }
     let mut table = table_of(&rt, rt.alloc(), entries.as_slice())?;
-    let rows = [(26_003, Some(0)), (153_461, None), (1001, Some(1024)), (2064, Some(3056))];
+    let rows = [
+        (26_003, Some(0)),
+        (153_461, None),
+        (1001, Some(1024)),
+        (2064, Some(3056)),
+    ];
     for (key, want) in rows {
         assert_eq!(rt; table.last(key), want, "{key}");
         assert_eq!(rt; last_of(entries.as_slice(), key), want, "{key}");

@@ -28,8 +28,7 @@ fn key_of(number: u64, keys: u32) -> u64
 }
 
 /// The table of the load's entries.
-pub fn table(alloc: Global, load: &Load) -> Result<Pending, OutOfMemory>
-{
+pub fn table(alloc: Global, load: &Load) -> Result<Pending, OutOfMemory> {
     let mut table = Pending::new(alloc)?;
     for number in 0..load.entries {
         table.reserve()?;
@@ -39,8 +38,7 @@ pub fn table(alloc: Global, load: &Load) -> Result<Pending, OutOfMemory>
 }
 
 /// The list of the load's entries.
-pub fn entries(alloc: Global, load: &Load) -> Result<Vec<Entry>, OutOfMemory>
-{
+pub fn entries(alloc: Global, load: &Load) -> Result<Vec<Entry>, OutOfMemory> {
     let mut entries = Vec::new(alloc);
     for number in 0..load.entries {
         let entry = Entry {
@@ -60,8 +58,7 @@ fn looked_up(number: u32, keys: u32) -> u64
 }
 
 /// The sum of the places that the table answers, with 1 for a key that it doesn't have.
-pub fn sum_of_table(table: &Pending, load: &Load) -> u64
-{
+pub fn sum_of_table(table: &Pending, load: &Load) -> u64 {
     let mut sum = 0u64;
     for number in 0..load.look_ups {
         let place = table.last(looked_up(number, load.keys)).unwrap_or(1);
@@ -71,8 +68,7 @@ pub fn sum_of_table(table: &Pending, load: &Load) -> u64
 }
 
 /// The same sum by a walk over the list.
-pub fn sum_of_list(entries: &[Entry], load: &Load) -> u64
-{
+pub fn sum_of_list(entries: &[Entry], load: &Load) -> u64 {
     let mut sum = 0u64;
     for number in 0..load.look_ups {
         let place = last_of(entries, looked_up(number, load.keys)).unwrap_or(1);

@@ -1,10 +1,9 @@
-use Rattle.std.proofs.Common.{◌≡◌, ◌/◌, ◌≤◌, ◌==◌, ℕ, Bool, true, false, nat_lt, List, length, arith, subst, sym, ap, drop, ◌∙◌}
-use Rattle.std.proofs.lemmas.Bool.{ne_eqb, eq-eqb}
+use Rattle.std.proofs.Common.{◌≡◌, ◌/◌, ◌≤◌, ◌==◌, ℕ, true, false, nat_lt, length, arith, subst, sym, drop, ◌∙◌}
+use Rattle.std.proofs.lemmas.Bool.{eq-eqb}
 use Rattle.std.proofs.lemmas.List.Sums.{prefix_len-le-length}
-use Rattle.std.specs.List.{prefix_len}
 use Rattle.dn_pending.specs.declared.segments.Segment.{Segment}
 use Rattle.dn_pending.specs.Segments.{IsFit}
-use Rattle.dn_pending.proofs.CoverLemmas.{IsFit-shed, IsFit-none}
+use Rattle.dn_pending.proofs.CoverLemmas.{IsFit-shed}
 use Rattle.dn_pending.proofs.segments.emptied.Goals as goal
 
 pub returns-else-is_empty-clause-within : goal.returns-else-is_empty-clause-within
@@ -16,4 +15,4 @@ some_by n h = let z : n ≡ 0 → ⊥ = λ e. (let t : (n == 0) ≡ true = eq-eq
 pub returns-else-is_empty-clause-fit : goal.returns-else-is_empty-clause-fit
 returns-else-is_empty-clause-fit c = λ entries fit is.
     subst (λ k. IsFit (drop k c.args.segments.now) c.args.left.now) (sym c.passed.ensures)
-        (IsFit-shed c.args.segments.now c.args.mark entries c.args.left.now fit is (some_by (length c.args.left.now) (sym c.is_empty.ensures ∙ c.if-is_empty.false)))
+    (IsFit-shed c.args.segments.now c.args.mark entries c.args.left.now fit is (some_by (length c.args.left.now) (sym c.is_empty.ensures ∙ c.if-is_empty.false)))

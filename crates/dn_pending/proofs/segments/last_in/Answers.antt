@@ -1,6 +1,5 @@
-use Rattle.std.proofs.Common.{◌≡◌, ◌++◌, ◌∷◌, ◌-◌, [], None, Option, Some, ℕ, Bool, true, false, List, arith, subst, sym, ap, ◌∙◌, take, drop, length, take-append-drop, is_some, refl}
+use Rattle.std.proofs.Common.{◌≡◌, ◌++◌, ◌-◌, None, Option, Some, ℕ, false, List, sym, ap, ◌∙◌, take, drop, length, take-append-drop, is_some, refl}
 use Rattle.dn_pending.specs.declared.entries.Entry.{Entry}
-use Rattle.dn_pending.specs.declared.segments.Segment.{Segment}
 use Rattle.dn_pending.specs.Entries.{last_of}
 use Rattle.dn_pending.specs.Filter.{bits_of, may_hold}
 use Rattle.dn_pending.proofs.CoverLemmas.{own_by, Covers-passed, last_of-denied, last_of-empty}
@@ -18,8 +17,8 @@ none_by (Some at) h = cc
 pub returns-then-is_some : goal.returns-then-is_some
 returns-then-is_some c =
     last_of-found c.args.key c.split_at.result.0.now c.split_at.result.1.now c.last_of-found.result c.last_of-found.ensures (sym c.is_some.ensures ∙ c.if-is_some.true)
-        ∙ ap (last_of c.args.key) (parts c.saturating_sub.result c.loop-newest.left.now c.split_at.result.0.now c.split_at.result.1.now c.split_at.ensures.front c.split_at.ensures.back)
-        ∙ sym c.loop-newest.invariant.same
+    ∙ ap (last_of c.args.key) (parts c.saturating_sub.result c.loop-newest.left.now c.split_at.result.0.now c.split_at.result.1.now c.split_at.ensures.front c.split_at.ensures.back)
+    ∙ sym c.loop-newest.invariant.same
 
 pub loop-newest-preserved-else-is_some : goal.loop-newest-preserved-else-is_some
 loop-newest-preserved-else-is_some c =
@@ -34,7 +33,7 @@ loop-newest-preserved-else-is_some c =
           ∙ sym (ap (last_of c.args.key) (parts c.saturating_sub.result left c.split_at.result.0.now c.split_at.result.1.now c.split_at.ensures.front c.split_at.ensures.back))
           ∙ last_of-past c.args.key c.split_at.result.0.now c.split_at.result.1.now none;
       bits = c.loop-newest.invariant.bits;
-      inside = c.loop-newest.invariant.inside
+      inside = c.loop-newest.invariant.inside;
     }
 
 pub loop-newest-preserved : goal.loop-newest-preserved
@@ -44,11 +43,11 @@ loop-newest-preserved c =
     let newest = c.in-Some.newest.now in
     let mid : c.saturating_sub.result ≡ length left - newest.count = c.saturating_sub.ensures in
     let denied : may_hold newest.filter.words (bits_of c.args.key) ≡ false =
-        ap (λ b. may_hold newest.filter.words b) (sym c.loop-newest.invariant.bits) ∙ sym c.may_hold.ensures ∙ c.if-may_hold.false in
+    ap (λ b. may_hold newest.filter.words b) (sym c.loop-newest.invariant.bits) ∙ sym c.may_hold.ensures ∙ c.if-may_hold.false in
     let none : last_of c.args.key c.split_at.result.1.now ≡ None =
-        last_of-denied c.args.key newest c.split_at.result.1.now
-            (own_by c.in-Some.older.now newest c.loop-newest.unseen.now left c.split_at.result.1.now h.0 (c.split_at.ensures.back ∙ ap (λ n. drop n left) mid) c.loop-newest.invariant.covers)
-            denied in
+    last_of-denied c.args.key newest c.split_at.result.1.now
+    (own_by c.in-Some.older.now newest c.loop-newest.unseen.now left c.split_at.result.1.now h.0 (c.split_at.ensures.back ∙ ap (λ n. drop n left) mid) c.loop-newest.invariant.covers)
+    denied in
     record {
       covers = Covers-passed c.in-Some.older.now newest c.loop-newest.unseen.now left c.split_at.result.0.now h.0
           (c.split_at.ensures.front ∙ ap (λ n. take n left) mid) c.loop-newest.invariant.covers;
@@ -56,7 +55,7 @@ loop-newest-preserved c =
           ∙ sym (ap (last_of c.args.key) (parts c.saturating_sub.result left c.split_at.result.0.now c.split_at.result.1.now c.split_at.ensures.front c.split_at.ensures.back))
           ∙ last_of-past c.args.key c.split_at.result.0.now c.split_at.result.1.now none;
       bits = c.loop-newest.invariant.bits;
-      inside = c.loop-newest.invariant.inside
+      inside = c.loop-newest.invariant.inside;
     }
 
 pub returns : goal.returns

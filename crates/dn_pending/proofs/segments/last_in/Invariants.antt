@@ -9,7 +9,7 @@ invariant-loop-newest l = record {
   covers : Covers (reverse l.unseen) (reverse l.left);
   same : last_of l.key l.fn.entries ≡ last_of l.key l.left;
   bits : l.bits ≡ bits_of l.key;
-  inside : AreInside l.bits
+  inside : AreInside l.bits;
 }
 
 abbrev pub decreases-loop-newest : goal.decreases-loop-newest

@@ -1,5 +1,4 @@
-use Rattle.std.proofs.Common.{◌≡◌, ◌<◌, ◌≤◌, ◌/◌, ◌%◌, ◌++◌, ◌∷◌, [], ℕ, List, arith, subst, sym, ap, ◌∙◌}
-use Rattle.dn_pending.specs.declared.segments.Segment.{Segment}
+use Rattle.std.proofs.Common.{◌≡◌, ◌≤◌, ◌/◌, ◌%◌, ◌++◌, ◌∷◌, [], arith, subst, sym, ap, ◌∙◌}
 use Rattle.dn_pending.specs.Filter.{bits_of, AreInside}
 use Rattle.dn_pending.specs.Segments.{IsFit}
 use Rattle.dn_pending.proofs.CoverLemmas.{IsFit-more, IsFit-first, room_left, begun, grown}
@@ -26,14 +25,14 @@ returns-in-Some-clause-fit c = λ entries fit past.
     let inside : AreInside (bits_of c.args.key) = subst AreInside c.of-bits.ensures.value c.of-bits.ensures.inside in
     let more : c.with.result ≡ grown newest (bits_of c.args.key) = c.with.ensures ∙ ap (grown newest) c.of-bits.ensures.value in
     subst (λ ss. IsFit ss (entries ++ record { key = c.args.key; at = c.args.at } ∷ []))
-        (sym (c.replace_last.ensures.items ∙ ap (λ ss. ss ++ c.with.result ∷ []) (take-front front newest c.args.segments.now.items items) ∙ ap (λ s. front ++ s ∷ []) more))
-        (IsFit-more front newest entries c.args.key c.args.at inside (subst (λ ss. IsFit ss entries) items fit) past number)
+    (sym (c.replace_last.ensures.items ∙ ap (λ ss. ss ++ c.with.result ∷ []) (take-front front newest c.args.segments.now.items items) ∙ ap (λ s. front ++ s ∷ []) more))
+    (IsFit-more front newest entries c.args.key c.args.at inside (subst (λ ss. IsFit ss entries) items fit) past number)
 
 pub returns-in_default-clause-fit : goal.returns-in_default-clause-fit
 returns-in_default-clause-fit c = λ entries fit past.
     let inside : AreInside (bits_of c.args.key) = subst AreInside c.of-bits.ensures.value c.of-bits.ensures.inside in
     let first : c.first.result ≡ begun (c.args.at / 1024) (bits_of c.args.key) =
-        c.first.ensures ∙ ap (λ n. begun n c.of-bits.result) c.number_of-number.ensures ∙ ap (λ b. begun (c.args.at / 1024) b) c.of-bits.ensures.value in
+    c.first.ensures ∙ ap (λ n. begun n c.of-bits.result) c.number_of-number.ensures ∙ ap (λ b. begun (c.args.at / 1024) b) c.of-bits.ensures.value in
     subst (λ ss. IsFit ss (entries ++ record { key = c.args.key; at = c.args.at } ∷ []))
-        (sym (c.push.ensures.items ∙ ap (λ s. c.args.segments.now.items ++ s ∷ []) first))
-        (IsFit-first c.args.segments.now.items entries c.args.key c.args.at inside fit past)
+    (sym (c.push.ensures.items ∙ ap (λ s. c.args.segments.now.items ++ s ∷ []) first))
+    (IsFit-first c.args.segments.now.items entries c.args.key c.args.at inside fit past)

@@ -1,4 +1,4 @@
-use Rattle.std.proofs.Common.{◌<◌, ◌≤◌, ◌*◌, All}
+use Rattle.std.proofs.Common.{◌<◌, ◌*◌, All}
 use Rattle.dn_pending.specs.declared.entries.Entry.{Entry}
 use Rattle.dn_pending_bench.proofs.loads.table.Given as goal
 
