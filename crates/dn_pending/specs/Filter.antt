@@ -26,7 +26,8 @@ lack_of words bit = bit.mask - bit_and (slice_index words bit.word) bit.mask
 
 -- whether all four are set
 abbrev pub may_hold : List ℕ → KeyBits → Bool
-may_hold words bits = is_set words bits.first && is_set words bits.second && is_set words bits.third && is_set words bits.fourth
+may_hold words bits =
+    is_set words bits.first && is_set words bits.second && is_set words bits.third && is_set words bits.fourth
 
 -- the words with the bit set
 abbrev pub set_in : List ℕ → Bit → List ℕ

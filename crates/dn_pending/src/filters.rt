@@ -81,8 +81,8 @@ impl Filter {
         self.words[bit.word] |= bit.mask;
     }
 
-    /// Whether the key of these bits may have been added, which it wasn't where one of them isn't set. All four are tested
-    /// at once: a walk asks many filters, and a branch for each bit would often be foretold wrongly.
+    /// Whether the key of these bits may have been added, which it wasn't where one of them isn't set. All four are
+    /// tested at once: a walk asks many filters, and a branch for each bit would often be foretold wrongly.
     pub fn may_hold(&self, bits: &KeyBits) -> bool
         requires { AreInside bits.now }
         ensures { result ≡ may_hold self.now.words bits.now }

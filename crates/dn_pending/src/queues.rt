@@ -7,8 +7,8 @@ use std::marker::Model;
 
 /// A queue whose items lie side by side, so that they are lent as one slice.
 ///
-/// What is dropped at the front stays in the buffer until it is more than what is left; only then are the others moved, so that
-/// a drop costs, over all, what it drops.
+/// What is dropped at the front stays in the buffer until it is more than what is left; only then are the others moved, so
+/// that a drop costs, over all, what it drops.
 #[derive(Drop)]
 pub struct Queue<T: Copy> {
     items: Vec<T>,
@@ -21,7 +21,10 @@ impl<T: Copy> Model for Queue<T> {
 
     ghost Value = { Row T };
 
-    ghost view = { λ q. record { items = drop q.gone q.items.items; room = vec_capacity q.items - vec_len q.items } };
+    ghost view = { λ q. record {
+      items = drop q.gone q.items.items;
+      room = vec_capacity q.items - vec_len q.items;
+    } };
 
     ghost invariant = { λ q. q.gone ≤ vec_len q.items };
 }
@@ -65,7 +68,8 @@ impl<T: Copy> Queue<T> {
     /// Puts an item in the place of the newest.
     pub fn replace_last(&mut self, item: T)
         requires { 1 ≤ length self.old.items }
-        ensures items { self.new.items ≡ take (length self.old.items - 1) self.old.items ++ item ∷ [] }
+        ensures items { self.new.items ≡
+            take (length self.old.items - 1) self.old.items ++ item ∷ [] }
         ensures room { self.new.room ≡ self.old.room }
     {
         self.items.pop();

@@ -85,8 +85,8 @@ fn passed(segments: &[Segment], mark: u32) -> usize
         .count()
 }
 
-/// How many segments in front have no entry left, where those are left that lie at the mark or past it. The one in which the mark
-/// lies may stay without an entry, as long as there are entries past it.
+/// How many segments in front have no entry left, where those are left that lie at the mark or past it. The one in which
+/// the mark lies may stay without an entry, as long as there are entries past it.
 pub fn emptied(segments: &[Segment], left: &[Entry], mark: u32) -> usize
     ensures within { result ≤ length segments.now }
     ensures fit { (entries : List Entry) →
@@ -123,8 +123,8 @@ pub fn note(segments: &mut Queue<Segment>, key: u64, at: u32)
     }
 }
 
-/// The place of the key's last entry, found by a walk from the newest segment, which passes over those whose filter denies
-/// the key.
+/// The place of the key's last entry, found by a walk from the newest segment, which passes over those whose filter
+/// denies the key.
 pub fn last_in(segments: &[Segment], entries: &[Entry], key: u64) -> Option<u32>
     requires { Covers (reverse segments.now) (reverse entries.now) }
     ensures { result ≡ last_of_list key entries.now }

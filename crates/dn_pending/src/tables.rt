@@ -13,9 +13,9 @@ const CALL_RECORDS: usize = 2;
 
 /// The pending table of one lane: the place of each record that is sealed and isn't merged yet, by key.
 ///
-/// Contracts see the list of entries, each with its key and its place, in the order in which they were added, which is that of
-/// their places; and how many more are sure of their room, the spare. Places are offsets in the lane's log, in words. A new
-/// table, and what `reserve` does, take memory; no other call does.
+/// Contracts see the list of entries, each with its key and its place, in the order in which they were added, which is
+/// that of their places; and how many more are sure of their room, the spare. Places are offsets in the lane's log, in
+/// words. `new` and `reserve` take memory; no other call does.
 #[derive(Drop)]
 pub struct Pending {
     entries: Queue<Entry>,
@@ -32,7 +32,11 @@ impl Model for Pending {
 
     ghost view = { λ p. record { entries = p.entries.items; spare = p.spare } };
 
-    ghost invariant = { λ p. IsFit p.segments.items p.entries.items × (p.spare ≤ 2) × (p.spare ≤ p.entries.room) × (p.spare ≤ p.segments.room) };
+    ghost invariant = { λ p.
+        IsFit p.segments.items p.entries.items ×
+        (p.spare ≤ 2) ×
+        (p.spare ≤ p.entries.room) ×
+        (p.spare ≤ p.segments.room) };
 }
 
 impl Pending {
@@ -49,8 +53,8 @@ impl Pending {
         Ok(table)
     }
 
-    /// Makes the spare 2, which is never less than it was: one call of a node adds at most two records. After want of memory
-    /// the table is as it was.
+    /// Makes the spare 2, which is never less than it was: one call of a node adds at most two records. After want of
+    /// memory the table is as it was.
     pub fn reserve(&mut self) -> Result<(), OutOfMemory>
         ensures ok { IfOk result (λ _. self.new ≡ record self.old { spare = 2 }) }
         ensures grows { self.old.spare ≤ self.new.spare }
@@ -62,12 +66,13 @@ impl Pending {
         Ok(())
     }
 
-    /// Adds a record that was sealed: its key, and its place, which is past the place of each entry. It takes one of the spare,
-    /// of which there is at least 1, and no memory.
+    /// Adds a record that was sealed: its key, and its place, which is past the place of each entry. It takes one of the
+    /// spare, of which there is at least 1, and no memory.
     pub fn add(&mut self, key: u64, at: u32)
         requires spare { 1 ≤ self.old.spare }
         requires past { All (λ (e : Entry). e.at < at) self.old.entries }
-        ensures entries { self.new.entries ≡ self.old.entries ++ record { key = key; at = at } ∷ [] }
+        ensures entries { self.new.entries ≡
+            self.old.entries ++ record { key = key; at = at } ∷ [] }
         ensures spare { self.new.spare ≡ self.old.spare - 1 }
     {
         note(&mut self.segments, key, at);
@@ -77,7 +82,8 @@ impl Pending {
 
     /// The place of the key's last entry, which is the greatest; none where no entry has the key. It takes no memory.
     ///
-    /// It walks from the newest segment of the log to the oldest, and passes over those whose Bloom filter denies the key.
+    /// It walks from the newest segment of the log to the oldest, and passes over those whose Bloom filter denies the
+    /// key.
     pub fn last(&self, key: u64) -> Option<u32>
         ensures value { result ≡ last_of key self.now.entries }
         ensures held { IfSome result (λ at.
@@ -90,8 +96,8 @@ impl Pending {
         last_in(self.segments.as_slice(), self.entries.as_slice(), key)
     }
 
-    /// Drops the entries whose place is below the mark; those at the mark and past it stay, and so does the spare. It takes no
-    /// memory, and costs, over all, what it drops.
+    /// Drops the entries whose place is below the mark; those at the mark and past it stay, and so does the spare. It takes
+    /// no memory, and costs, over all, what it drops.
     pub fn drop_below(&mut self, mark: u32)
         ensures { self.new ≡ record self.old { entries = kept_from mark self.old.entries } }
     {

@@ -1,7 +1,7 @@
 //! Measures the look-up in a pending table against a walk over one list of the same entries.
 //!
-//! With the word `pending` or `list` it looks 100,000 keys up among 30,000 entries that lie 8 words apart, over 10,000 keys, in
-//! that way, and prints the sum of the places found; without a word it does both on a hundredth of that.
+//! With the word `pending` or `list` it looks 100,000 keys up among 30,000 entries that lie 8 words apart, over 10,000
+//! keys, in that way, and prints the sum of the places found; without a word it does both on a hundredth of that.
 #![tactic(auto)]
 
 mod loads;
