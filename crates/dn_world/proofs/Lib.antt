@@ -2,6 +2,8 @@ mod CallLemmas
 mod CountLemmas
 mod CourseLemmas
 mod FinishLemmas
+mod KeyLemmas
+mod KeyLemmas
 mod OneOrder
 mod OpenLemmas
 mod OutputLaw
