@@ -1,0 +1,5 @@
+pub mod Grant
+pub mod Monitor
+pub mod Causes
+pub mod Words
+pub mod Sequence

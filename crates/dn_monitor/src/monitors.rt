@@ -1,0 +1,158 @@
+ghost use Rattle.std.specs.Prelude.{◌≡◌, ◌≢◌, ◌<◌, ◌≤◌, ◌+◌, ◌^◌, ◌↔◌, ℕ, Option, Some, None, IsNone, replicate, slice_index, length};
+ghost use Rattle.dn_act.specs.declared.actions.Action.{Action as Acting};
+ghost use Rattle.dn_monitor.specs.Monitor.{first_place, monitor_next, monitor_turn, monitor_after, slot_in, heir_of, IsOrder, IsErrand};
+ghost use Rattle.dn_monitor.specs.Words.{IsOfMonitor};
+ghost use Rattle.dn_monitor.specs.Causes.{IsFormatted, IsLooked, IsGranted, IsBarred, IsTaken, IsHeld, IsWaiting, IsNotFenced, IsWorn};
+ghost use Rattle.dn_monitor.specs.Sequence.{sequence, CarriesOut, CarriesOutRounds};
+
+use crate::orders::{MonitorAnswer, MonitorTurn, Order};
+use crate::places::{Errand, MonitorPlace};
+use crate::steps::{after, ask, grant};
+use dn_act::Action;
+use dn_word::regions::{FORMAT_AT, deed_at, gate_at, mark_at};
+use dn_word::{Deed, FORMAT_NUMBER, Format};
+use std::marker::Model;
+
+/// The bit of a gate's word that fences its lane.
+const FENCED: u64 = 1 << 63;
+
+/// The slots of the key space.
+const SLOTS: usize = 64;
+
+/// A monitor with its order, an action at a time. It changes the format, the bit of a gate, and deeds, each by one exchange.
+///
+/// A slot is moved in three steps: its deed asks the lane that owns it to leave, the lane gives it up, and the monitor grants it to
+/// another. A fenced lane needn't give it up, since it seals nothing more. The grant waits until all that the lane sealed is merged into
+/// the index, and raises the deed's epoch by one and its floor to the lane's stamp at least.
+#[derive(Drop)]
+pub struct Monitor {
+    /// The lane that a takeover gives each slot to, 0 being nobody.
+    heirs: [u8; SLOTS],
+    place: MonitorPlace,
+}
+
+impl Model for Monitor {
+    ghost use Rattle.dn_monitor.specs.Monitor.{Monitoring, IsPlace};
+
+    ghost Value = { Monitoring };
+
+    ghost view = { λ m. record { heirs = m.heirs; place = m.place } };
+
+    ghost invariant = { λ m. IsPlace m.place };
+}
+
+/// The slot that the monitor is at.
+fn slot_of(errand: Errand) -> u8
+    requires { IsErrand errand }
+    ensures value { result ≡ slot_in errand }
+    ensures below { result < 64 }
+{
+    match errand {
+        Errand::Move { slot, .. } | Errand::Takeover { slot, .. } => slot,
+    }
+}
+
+/// The lane that is granted the slot.
+fn heir_in(heirs: &[u8; SLOTS], errand: Errand) -> u8
+    requires { IsErrand errand }
+    ensures { result ≡ heir_of heirs.now errand }
+{
+    match errand {
+        Errand::Move { to, .. } => to,
+        Errand::Takeover { slot, .. } => heirs[slot as usize],
+    }
+}
+
+/// Where an order begins.
+fn begin(order: Order) -> MonitorPlace
+    requires { IsOrder order }
+    ensures { result ≡ first_place order }
+{
+    match order {
+        Order::Format { segments } => MonitorPlace::Format { segments },
+        Order::Look { slot } => MonitorPlace::Look { slot },
+        Order::Move { slot, to } => MonitorPlace::Deed {
+            errand: Errand::Move { slot, to },
+        },
+        Order::Fence { lane } => MonitorPlace::Fence { lane },
+        Order::Takeover { lane } => MonitorPlace::Deed {
+            errand: Errand::Takeover {
+                lane,
+                slot: 0,
+                granted: 0,
+            },
+        },
+    }
+}
+
+impl Monitor {
+    /// The monitor of an order, before its first action, with the lanes that the slots go to in a takeover.
+    fn with_heirs(order: Order, heirs: [u8; SLOTS]) -> Monitor
+        requires { IsOrder order }
+        ensures value { result ≡ record { heirs = heirs; place = first_place order } }
+        ensures sequence { CarriesOut result (sequence heirs order) }
+    {
+        Monitor {
+            heirs,
+            place: begin(order),
+        }
+    }
+
+    /// The next action, or None exactly after the last answer.
+    pub fn next(&self) -> Option<Action>
+        ensures value { result ≡ monitor_next self.now }
+        ensures done { IsNone result ↔ (self.now.place ≡ MonitorPlace.Done) }
+        ensures within { (action : Acting) → result ≡ Some action → IsOfMonitor action }
+    {
+        let action = match self.place {
+            MonitorPlace::Done => return None,
+            MonitorPlace::Format { segments } => {
+                let format = Format {
+                    segments,
+                    number: FORMAT_NUMBER,
+                };
+                Action::Store {
+                    at: FORMAT_AT,
+                    word: format.word(),
+                }
+            }
+            MonitorPlace::Look { slot } => Action::Load { at: deed_at(slot) },
+            MonitorPlace::Fence { lane } => Action::Or {
+                at: gate_at(lane),
+                bits: FENCED,
+            },
+            MonitorPlace::Deed { errand } => Action::Load {
+                at: deed_at(slot_of(errand)),
+            },
+            MonitorPlace::Leave { slot, deed, .. } => Action::Cas {
+                at: deed_at(slot),
+                old: deed,
+                new: ask(deed),
+            },
+            MonitorPlace::Gate { deed, .. } => Action::Load {
+                at: gate_at(Deed::read(deed).lane),
+            },
+            MonitorPlace::Mark { deed, .. } => Action::Load {
+                at: mark_at(Deed::read(deed).lane),
+            },
+            MonitorPlace::Grant { errand, deed, gate } => Action::Cas {
+                at: deed_at(slot_of(errand)),
+                old: deed,
+                new: grant(deed, gate, heir_in(&self.heirs, errand)),
+            },
+        };
+        Some(action)
+    }
+
+    /// Takes the word that the action found. There is a next action.
+    pub fn take(&mut self, word: u64) -> MonitorTurn
+        requires { self.old.place ≢ MonitorPlace.Done }
+        ensures turn { result ≡ monitor_turn self.old word }
+        ensures after { self.new ≡ monitor_after self.old word }
+        ensures rounds { CarriesOutRounds self.new }
+    {
+        let step = after(self.place, word);
+        self.place = step.place;
+        step.turn
+    }
+}
