@@ -91,7 +91,6 @@ pub record IsWaiting (mark need word : ℕ) (place : MonitorPlace) : Type 0 wher
 
 -- a takeover loaded a gate without the bit
 pub record IsNotFenced (gate word : ℕ) (place : MonitorPlace) : Type 0 where
-  pub errand : Errand
   pub lane : ℕ
   pub slot : ℕ
   pub before : ℕ

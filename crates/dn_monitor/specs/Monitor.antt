@@ -149,6 +149,19 @@ monitor_turn m word = (step_in word m.place).turn
 abbrev pub monitor_after : Monitoring → ℕ → Monitoring
 monitor_after m word = record { heirs = m.heirs; place = (step_in word m.place).place }
 
+-- the last answer of an order
+abbrev pub is_last : MonitorTurn → Bool
+is_last More = false
+is_last (Answered (Formatted old)) = true
+is_last (Answered (Looked deed)) = true
+is_last (Answered (Granted deed)) = true
+is_last (Answered (Barred old)) = true
+is_last (Answered (Taken slots)) = true
+is_last (Answered (Held deed)) = false
+is_last (Answered (Waiting mark need)) = false
+is_last (Answered (NotFenced gate)) = true
+is_last (Answered (Worn epoch)) = true
+
 -- ---- what a monitor knows at a place
 abbrev pub IsErrand : Errand → Type 0
 IsErrand (Move slot to) = (slot < 64) × (0 < to) × (to < 64)

@@ -1,8 +1,11 @@
-ghost use Rattle.std.specs.Prelude.{◌≡◌, ◌≢◌, ◌<◌, ◌≤◌, ◌+◌, ◌^◌, ◌↔◌, ℕ, Option, Some, None, IsNone, replicate, slice_index, length};
+ghost use Rattle.std.specs.Prelude.{◌≡◌, ◌≢◌, ◌<◌, ◌≤◌, ◌+◌, ◌^◌, ◌↔◌, ℕ, Option, Some, None, IsNone, IsTrue, slice_index, length};
 ghost use Rattle.dn_act.specs.declared.actions.Action.{Action as Acting};
-ghost use Rattle.dn_monitor.specs.Monitor.{first_place, monitor_next, monitor_turn, monitor_after, slot_in, heir_of, IsOrder, IsErrand};
+ghost use Rattle.dn_monitor.specs.Monitor.{first_place, monitor_next, monitor_turn, monitor_after, is_last, slot_in, heir_of, IsOrder, IsErrand};
 ghost use Rattle.dn_monitor.specs.Words.{IsOfMonitor};
-ghost use Rattle.dn_monitor.specs.Causes.{IsFormatted, IsLooked, IsGranted, IsBarred, IsTaken, IsHeld, IsWaiting, IsNotFenced, IsWorn};
+ghost use Rattle.dn_monitor.specs.Causes.{IsFormatted, IsLooked, IsGranted, IsBarred, IsTaken, IsHeld, IsWaiting, IsNotFenced, IsWorn, IsToGrant};
+ghost use Rattle.dn_monitor.specs.declared.orders.MonitorTurn.TheVariants.{Answered};
+ghost use Rattle.dn_monitor.specs.declared.orders.MonitorAnswer.TheVariants.{Formatted, Looked, Granted, Barred, Taken, Held, Waiting, NotFenced, Worn};
+ghost use Rattle.dn_word.specs.declared.packed.gate.Gate.{Gate};
 ghost use Rattle.dn_monitor.specs.Sequence.{sequence, CarriesOut, CarriesOutRounds};
 
 use crate::orders::{MonitorAnswer, MonitorTurn, Order};
@@ -149,6 +152,30 @@ impl Monitor {
         requires { self.old.place ≢ MonitorPlace.Done }
         ensures turn { result ≡ monitor_turn self.old word }
         ensures after { self.new ≡ monitor_after self.old word }
+        ensures last { IsTrue (is_last result) ↔ (self.new.place ≡ MonitorPlace.Done) }
+        ensures formatted { (old : ℕ) →
+            (result ≡ Answered (Formatted old)) ↔ IsFormatted old word self.old.place }
+        ensures looked { (deed : ℕ) →
+            (result ≡ Answered (Looked deed)) ↔ IsLooked deed word self.old.place }
+        ensures granted { (deed : ℕ) →
+            (result ≡ Answered (Granted deed)) ↔ IsGranted deed word self.old.place }
+        ensures barred { (old : ℕ) →
+            (result ≡ Answered (Barred old)) ↔ IsBarred old word self.old.place }
+        ensures taken { (slots : ℕ) →
+            (result ≡ Answered (Taken slots)) ↔ IsTaken slots word self.old.place }
+        ensures held { (deed : ℕ) →
+            (result ≡ Answered (Held deed)) ↔ IsHeld deed word self.old.place }
+        ensures waiting { (mark need : ℕ) →
+            (result ≡ Answered (Waiting mark need)) ↔ IsWaiting mark need word self.old.place }
+        ensures waits { (mark need : ℕ) →
+            result ≡ Answered (Waiting mark need) → self.new ≡ self.old }
+        ensures not_fenced { (gate : ℕ) →
+            (result ≡ Answered (NotFenced gate)) ↔ IsNotFenced gate word self.old.place }
+        ensures worn { (epoch : ℕ) →
+            (result ≡ Answered (Worn epoch)) ↔ IsWorn epoch word self.old.place }
+        ensures grants { (errand : Errand) (deed : ℕ) (gate : Option Gate) →
+            self.new.place ≡ MonitorPlace.Grant errand deed gate →
+            IsToGrant deed word self.old.place }
         ensures rounds { CarriesOutRounds self.new }
     {
         let step = after(self.place, word);
