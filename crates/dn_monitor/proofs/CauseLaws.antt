@@ -1,13 +1,12 @@
-use Rattle.std.proofs.Common.{◌≡◌, ◌≢◌, ◌⊎◌, inl, inr, ℕ, ◌+◌, ◌-◌, ◌^◌, ◌==◌, ◌<◌, ◌≤◌, ◌↔◌, IsTrue, Option, Some, None, Bool, true, false, if◌then◌else◌, nat_lt, refl, sym, ◌∙◌, ap, subst}
+use Rattle.std.proofs.Common.{◌≡◌, ◌≢◌, ◌⊎◌, inl, inr, ℕ, ◌+◌, ◌-◌, ◌^◌, ◌==◌, ◌<◌, ◌↔◌, IsTrue, Option, Some, None, Bool, true, false, if◌then◌else◌, nat_lt, refl, sym, ◌∙◌, ap, subst}
 use Rattle.std.proofs.lemmas.Bool.{eqb-true, eqb-false, eq-eqb, ne_eqb, ltb-true, ltb-false, lt-ltb, le-ltb}
 use Rattle.dn_word.specs.Gate.{gate_of}
-use Rattle.dn_word.specs.Deed.{deed_of, deed_word}
+use Rattle.dn_word.specs.Deed.{deed_of}
 use Rattle.dn_word.specs.declared.packed.gate.Gate.{Gate}
 use Rattle.dn_word.specs.declared.packed.deed.DeedState.{DeedState}
 use Rattle.dn_word.specs.declared.packed.deed.DeedState.TheVariants.{Nobody, Owned, Leaving, Released}
-use Rattle.dn_monitor.specs.Grant.{granted}
-use Rattle.dn_monitor.specs.Monitor.{Monitoring, is_lane, on, told, ended, granting, yielding, by_state, passed, by_gate, after_mark, after_grant, won, step_in, is_last}
-use Rattle.dn_monitor.specs.Causes.{IsFormatted, IsLooked, IsMade, WasSo, IsGranted, IsBarred, PassesLast, TakesLast, IsTaken, IsHeld, IsWaiting, IsNotFenced, IsVacant, FoundVacant, FoundMerged, IsToGrant, IsWorn}
+use Rattle.dn_monitor.specs.Monitor.{Monitoring, is_lane, on, told, ended, granting, yielding, by_state, passed, by_gate, won, step_in, is_last}
+use Rattle.dn_monitor.specs.Causes.{IsFormatted, IsLooked, IsMade, WasSo, IsGranted, IsBarred, IsTaken, IsHeld, IsWaiting, IsNotFenced, IsVacant, IsToGrant, IsWorn}
 use Rattle.dn_monitor.specs.declared.orders.MonitorAnswer.{MonitorAnswer}
 use Rattle.dn_monitor.specs.declared.orders.MonitorAnswer.TheVariants.{Formatted, Looked, Granted, Barred, Taken, Held, Waiting, NotFenced, Worn}
 use Rattle.dn_monitor.specs.declared.orders.MonitorTurn.{MonitorTurn}

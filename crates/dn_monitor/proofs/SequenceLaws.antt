@@ -8,7 +8,7 @@ use Rattle.dn_word.specs.declared.packed.deed.DeedState.TheVariants.{Nobody, Own
 use Rattle.dn_act.specs.declared.actions.Action.TheVariants.{Load}
 use Rattle.dn_model.specs.Regions.{gate_at}
 use Rattle.dn_model.specs.Program.{Program, Return, Turn, Goes, Runs}
-use Rattle.dn_monitor.specs.Grant.{granted, leaving}
+use Rattle.dn_monitor.specs.Grant.{granted}
 use Rattle.dn_monitor.specs.Monitor.{Monitoring, is_lane, heir_of, first_place, on, told, ended, granting, passed, won, by_gate, by_state as state_step}
 use Rattle.dn_monitor.specs.Sequence.{Round, Begin, Await, RoundEnd, Over, Tells, Again, next_slot, after_grant, exchange, grant, await, leave, left, ask, by_state, move, take, takeover, round, sequence, place_of, turn_at, next_of, monitor_taken, CarriesOut, CarriesOutRounds}
 use Rattle.dn_monitor.specs.declared.orders.Order.{Order}
@@ -94,8 +94,8 @@ leave_run heirs slot to deed e = (
   refl,
   λ word.
       let P : DeedState → Type 0 = λ s.
-          Ran (if (gate_of word).fenced then await to (Move slot to) deed (gate_of word) else Return (Tells (Held deed) (Begin (Move slot to))))
-          (stepped heirs (by_gate slot to deed (gate_of word) s)) in
+      Ran (if (gate_of word).fenced then await to (Move slot to) deed (gate_of word) else Return (Tells (Held deed) (Begin (Move slot to))))
+      (stepped heirs (by_gate slot to deed (gate_of word) s)) in
       subst P (sym e) (held_by heirs slot to deed (gate_of word) (gate_of word).fenced),
 )
 

@@ -1,4 +1,4 @@
-use Rattle.std.specs.Prelude.{◌≡◌, ◌≢◌, ◌⊎◌, ℕ, ◌+◌, ◌-◌, ◌^◌, ◌<◌, ◌≤◌, Bool, true, false, Option}
+use Rattle.std.specs.Prelude.{◌≡◌, ◌≢◌, ◌⊎◌, ℕ, ◌+◌, ◌-◌, ◌^◌, ◌<◌, ◌≤◌, false, Option}
 use Rattle.dn_word.specs.Gate.{gate_of}
 use Rattle.dn_word.specs.Deed.{deed_of, deed_word}
 use Rattle.dn_word.specs.declared.packed.gate.Gate.{Gate}

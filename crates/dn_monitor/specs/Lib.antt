@@ -1,3 +1,4 @@
+pub mod Heirs
 pub mod Grant
 pub mod Monitor
 pub mod Causes

@@ -1,4 +1,4 @@
-use Rattle.std.specs.Prelude.{◌≡◌, ℕ, ◌+◌, ◌-◌, ◌^◌, ◌<◌, ◌≤◌, ◌==◌, ◌&&◌, Bool, true, false, List, Option, Some, None, nat_lt, slice_index, if◌then◌else◌}
+use Rattle.std.specs.Prelude.{ℕ, ◌+◌, ◌-◌, ◌^◌, ◌<◌, ◌≤◌, ◌==◌, ◌&&◌, Bool, true, false, List, Option, Some, None, nat_lt, slice_index, if◌then◌else◌}
 use Rattle.dn_word.specs.Gate.{gate_of}
 use Rattle.dn_word.specs.Deed.{deed_of, deed_word}
 use Rattle.dn_word.specs.Format.{format_word}
@@ -44,6 +44,9 @@ first_place (order.Look slot) = at.Look slot
 first_place (order.Move slot to) = at.Deed (Move slot to)
 first_place (order.Fence lane) = at.Fence lane
 first_place (order.Takeover lane) = at.Deed (Takeover lane 0 0)
+
+abbrev pub begun : Order → List ℕ → Monitoring
+begun o heirs = record { heirs = heirs; place = first_place o }
 
 -- the slot that the monitor is at, and the lane that is granted it
 abbrev pub slot_in : Errand → ℕ

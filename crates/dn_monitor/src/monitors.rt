@@ -1,6 +1,8 @@
-ghost use Rattle.std.specs.Prelude.{◌≡◌, ◌≢◌, ◌<◌, ◌≤◌, ◌+◌, ◌^◌, ◌↔◌, ℕ, Option, Some, None, IsNone, IsTrue, slice_index, length};
+ghost use Rattle.std.specs.Prelude.{◌≡◌, ◌≢◌, ◌<◌, ◌≤◌, ◌+◌, ◌^◌, ◌↔◌, ℕ, Option, Some, IsNone, IsTrue, All};
+ghost use Rattle.std.specs.List.Sorted.{IsStrictlyIncreasing};
 ghost use Rattle.dn_act.specs.declared.actions.Action.{Action as Acting};
-ghost use Rattle.dn_monitor.specs.Monitor.{first_place, monitor_next, monitor_turn, monitor_after, is_last, slot_in, heir_of, IsOrder, IsErrand};
+ghost use Rattle.dn_monitor.specs.Monitor.{first_place, begun, monitor_next, monitor_turn, monitor_after, is_last, slot_in, heir_of, IsOrder, IsErrand};
+ghost use Rattle.dn_monitor.specs.Heirs.{AreHeirs};
 ghost use Rattle.dn_monitor.specs.Words.{IsOfMonitor};
 ghost use Rattle.dn_monitor.specs.Causes.{IsFormatted, IsLooked, IsGranted, IsBarred, IsTaken, IsHeld, IsWaiting, IsNotFenced, IsWorn, IsToGrant};
 ghost use Rattle.dn_monitor.specs.declared.orders.MonitorTurn.TheVariants.{Answered};
@@ -12,6 +14,7 @@ use crate::orders::{MonitorAnswer, MonitorTurn, Order};
 use crate::places::{Errand, MonitorPlace};
 use crate::steps::{after, ask, grant};
 use dn_act::Action;
+use dn_ring::assign;
 use dn_word::regions::{FORMAT_AT, deed_at, gate_at, mark_at};
 use dn_word::{Deed, FORMAT_NUMBER, Format};
 use std::marker::Model;
@@ -88,15 +91,34 @@ fn begin(order: Order) -> MonitorPlace
     }
 }
 
+/// The lanes that the slots go to: in a takeover the owners by the ring of the live lanes.
+fn heirs(order: Order, live: &[u8]) -> [u8; SLOTS]
+    requires rising { IsStrictlyIncreasing live.now }
+    requires lanes { All (λ lane. (1 ≤ lane) × (lane < 64)) live.now }
+    ensures { (lane : ℕ) → order ≡ Order.Takeover lane → AreHeirs live.now result }
+{
+    match order {
+        Order::Takeover { .. } => assign(live),
+        Order::Format { .. } | Order::Look { .. } | Order::Move { .. } | Order::Fence { .. } => {
+            [0; SLOTS]
+        }
+    }
+}
+
 impl Monitor {
-    /// The monitor of an order, before its first action, with the lanes that the slots go to in a takeover.
-    fn with_heirs(order: Order, heirs: [u8; SLOTS]) -> Monitor
-        requires { IsOrder order }
-        ensures value { result ≡ record { heirs = heirs; place = first_place order } }
-        ensures sequence { CarriesOut result (sequence heirs order) }
+    /// The monitor of an order, before its first action. A slot of the order is below 64, its lanes are from 1 to 63, and so are the
+    /// live lanes, which rise. By consistent hashing a takeover gives each slot to the live lane that the ring names, and to nobody where
+    /// no lane is live.
+    pub fn new(order: Order, live: &[u8]) -> Monitor
+        requires order { IsOrder order }
+        requires rising { IsStrictlyIncreasing live.now }
+        requires lanes { All (λ lane. (1 ≤ lane) × (lane < 64)) live.now }
+        ensures value { result ≡ begun order result.heirs }
+        ensures heirs { (lane : ℕ) → order ≡ Order.Takeover lane → AreHeirs live.now result.heirs }
+        ensures sequence { CarriesOut result (sequence result.heirs order) }
     {
         Monitor {
-            heirs,
+            heirs: heirs(order, live),
             place: begin(order),
         }
     }
