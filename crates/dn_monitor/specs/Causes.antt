@@ -1,9 +1,9 @@
 use Rattle.std.specs.Prelude.{◌≡◌, ◌≢◌, ◌⊎◌, ℕ, ◌+◌, ◌-◌, ◌^◌, ◌<◌, ◌≤◌, false, Option}
 use Rattle.dn_word.specs.Gate.{gate_of}
-use Rattle.dn_word.specs.Deed.{deed_of, deed_word}
+use Rattle.dn_word.specs.Deed.{deed_of}
 use Rattle.dn_word.specs.declared.packed.gate.Gate.{Gate}
 use Rattle.dn_word.specs.declared.packed.deed.DeedState.TheVariants.{Nobody, Owned, Leaving, Released}
-use Rattle.dn_monitor.specs.Grant.{granted}
+use Rattle.dn_monitor.specs.Grant.{granted_word}
 use Rattle.dn_monitor.specs.Monitor.{is_lane}
 use Rattle.dn_monitor.specs.declared.places.Errand.{Errand}
 use Rattle.dn_monitor.specs.declared.places.Errand.TheVariants.{Move, Takeover}
@@ -32,7 +32,7 @@ pub record IsMade (deed word : ℕ) (place : MonitorPlace) : Type 0 where
   pub gate : Option Gate
   pub here : place ≡ at.Grant (Move slot to) seen gate
   pub done : word ≡ seen
-  pub made : deed ≡ deed_word (granted (deed_of seen) gate to)
+  pub made : deed ≡ granted_word seen gate to
 
 -- the deed that a move loaded was the target's already
 pub record WasSo (deed word : ℕ) (place : MonitorPlace) : Type 0 where
@@ -99,9 +99,13 @@ pub record IsNotFenced (gate word : ℕ) (place : MonitorPlace) : Type 0 where
   pub found : word ≡ gate
   pub unfenced : (gate_of word).fenced ≡ false
 
--- a deed of nobody, or that a lane leaves or has left which isn't from 1 to 63
+-- a deed that a lane leaves or has left
+abbrev pub IsGivenUp : ℕ → Type 0
+IsGivenUp deed = ((deed_of deed).state ≡ Leaving) ⊎ ((deed_of deed).state ≡ Released)
+
+-- a deed that no lane has: it is nobody's, or the lane that leaves or has left isn't from 1 to 63
 abbrev pub IsVacant : ℕ → Type 0
-IsVacant deed = ((deed_of deed).state ≡ Nobody) ⊎ ((((deed_of deed).state ≡ Leaving) ⊎ ((deed_of deed).state ≡ Released)) × (is_lane (deed_of deed).lane ≡ false))
+IsVacant deed = ((deed_of deed).state ≡ Nobody) ⊎ (IsGivenUp deed × (is_lane (deed_of deed).lane ≡ false))
 
 -- the grant of a deed is next: a move loaded it vacant
 pub record FoundVacant (deed word : ℕ) (place : MonitorPlace) : Type 0 where

@@ -1,4 +1,5 @@
 use Rattle.std.specs.Prelude.{ℕ, ◌+◌, ◌==◌, Option, Some, None, max, if◌then◌else◌}
+use Rattle.dn_word.specs.Deed.{deed_of, deed_word}
 use Rattle.dn_word.specs.declared.packed.gate.Gate.{Gate}
 use Rattle.dn_word.specs.declared.packed.deed.Deed.{Deed}
 use Rattle.dn_word.specs.declared.packed.deed.DeedState.{DeedState}
@@ -17,6 +18,13 @@ raised floor (Some gate) = max floor gate.stamp
 abbrev pub granted : Deed → Option Gate → ℕ → Deed
 granted deed gate to = record { state = owned_by to; epoch = deed.epoch + 1; lane = to; floor = raised deed.floor gate }
 
+-- as words
+abbrev pub granted_word : ℕ → Option Gate → ℕ → ℕ
+granted_word deed gate to = deed_word (granted (deed_of deed) gate to)
+
 -- the deed that asks its lane to leave: all but the state is kept
 abbrev pub leaving : Deed → Deed
 leaving deed = record { state = Leaving; epoch = deed.epoch; lane = deed.lane; floor = deed.floor }
+
+abbrev pub leaving_word : ℕ → ℕ
+leaving_word deed = deed_word (leaving (deed_of deed))

@@ -1,6 +1,6 @@
 use Rattle.std.specs.Prelude.{ℕ, ◌+◌, ◌-◌, ◌^◌, ◌<◌, ◌≤◌, ◌==◌, ◌&&◌, Bool, true, false, List, Option, Some, None, nat_lt, slice_index, if◌then◌else◌}
 use Rattle.dn_word.specs.Gate.{gate_of}
-use Rattle.dn_word.specs.Deed.{deed_of, deed_word}
+use Rattle.dn_word.specs.Deed.{deed_of}
 use Rattle.dn_word.specs.Format.{format_word}
 use Rattle.dn_word.specs.declared.packed.gate.Gate.{Gate}
 use Rattle.dn_word.specs.declared.packed.deed.DeedState.{DeedState}
@@ -8,7 +8,7 @@ use Rattle.dn_word.specs.declared.packed.deed.DeedState.TheVariants.{Nobody, Own
 use Rattle.dn_act.specs.declared.actions.Action.{Action}
 use Rattle.dn_act.specs.declared.actions.Action.TheVariants.{Load, Store, Cas, Or}
 use Rattle.dn_model.specs.Regions.{gate_at, mark_at, deed_at}
-use Rattle.dn_monitor.specs.Grant.{granted, leaving}
+use Rattle.dn_monitor.specs.Grant.{granted_word, leaving_word}
 use Rattle.dn_monitor.specs.declared.orders.Order.{Order}
 use Rattle.dn_monitor.specs.declared.orders.Order.TheVariants as order
 use Rattle.dn_monitor.specs.declared.orders.MonitorAnswer.{MonitorAnswer}
@@ -64,11 +64,11 @@ next_in heirs (at.Format segments) = Some (Store 0 (format_word (record { segmen
 next_in heirs (at.Look slot) = Some (Load (deed_at slot))
 next_in heirs (at.Fence lane) = Some (Or (gate_at lane) (2 ^ 63))
 next_in heirs (at.Deed errand) = Some (Load (deed_at (slot_in errand)))
-next_in heirs (at.Leave slot to deed) = Some (Cas (deed_at slot) deed (deed_word (leaving (deed_of deed))))
+next_in heirs (at.Leave slot to deed) = Some (Cas (deed_at slot) deed (leaving_word deed))
 next_in heirs (at.Gate errand deed) = Some (Load (gate_at (deed_of deed).lane))
 next_in heirs (at.Mark errand deed gate) = Some (Load (mark_at (deed_of deed).lane))
 next_in heirs (at.Grant errand deed gate) =
-    Some (Cas (deed_at (slot_in errand)) deed (deed_word (granted (deed_of deed) gate (heir_of heirs errand))))
+    Some (Cas (deed_at (slot_in errand)) deed (granted_word deed gate (heir_of heirs errand)))
 
 abbrev pub monitor_next : Monitoring → Option Action
 monitor_next m = next_in m.heirs m.place
@@ -106,13 +106,15 @@ passed lane slot n = if slot == 63 then ended (Taken n) else on (at.Deed (Takeov
 
 abbrev pub after_deed : Errand → ℕ → MonitorStep
 after_deed (Move slot to) deed = by_state slot to deed (deed_of deed).state
-after_deed (Takeover lane slot n) deed = if (deed_of deed).lane == lane then on (at.Gate (Takeover lane slot n) deed) else passed lane slot n
+after_deed (Takeover lane slot n) deed =
+    if (deed_of deed).lane == lane then on (at.Gate (Takeover lane slot n) deed) else passed lane slot n
 
 -- after the gate of a lane that leaves, or that was fenced or has left
 abbrev pub by_gate : ℕ → ℕ → ℕ → Gate → DeedState → MonitorStep
 by_gate slot to deed gate Nobody = on (at.Mark (Move slot to) deed gate)
 by_gate slot to deed gate Owned = on (at.Mark (Move slot to) deed gate)
-by_gate slot to deed gate Leaving = if gate.fenced then on (at.Mark (Move slot to) deed gate) else told (at.Deed (Move slot to)) (Held deed)
+by_gate slot to deed gate Leaving =
+    if gate.fenced then on (at.Mark (Move slot to) deed gate) else told (at.Deed (Move slot to)) (Held deed)
 by_gate slot to deed gate Released = on (at.Mark (Move slot to) deed gate)
 
 abbrev pub after_gate : Errand → ℕ → ℕ → MonitorStep
@@ -123,11 +125,13 @@ after_gate (Takeover lane slot n) deed word =
 -- after the mark, which is to be at least the gate's length
 abbrev pub after_mark : Errand → ℕ → Gate → ℕ → MonitorStep
 after_mark errand deed gate mark =
-    if nat_lt mark gate.len then told (at.Mark errand deed gate) (Waiting mark gate.len) else granting errand deed (Some gate)
+    if nat_lt mark gate.len
+    then told (at.Mark errand deed gate) (Waiting mark gate.len)
+    else granting errand deed (Some gate)
 
 -- after the exchange that grants, where it was done
 abbrev pub won : Errand → ℕ → Option Gate → MonitorStep
-won (Move slot to) deed gate = ended (Granted (deed_word (granted (deed_of deed) gate to)))
+won (Move slot to) deed gate = ended (Granted (granted_word deed gate to))
 won (Takeover lane slot n) deed gate = passed lane slot (n + 1)
 
 -- one that found another word begins the slot again

@@ -1,6 +1,6 @@
 use Rattle.std.specs.Prelude.{◌≡◌, ℕ, ◌+◌, ◌-◌, ◌^◌, ◌==◌, List, Option, Some, None, nat_lt, slice_index, if◌then◌else◌}
 use Rattle.dn_word.specs.Gate.{gate_of}
-use Rattle.dn_word.specs.Deed.{deed_of, deed_word}
+use Rattle.dn_word.specs.Deed.{deed_of}
 use Rattle.dn_word.specs.Format.{format_word}
 use Rattle.dn_word.specs.declared.packed.gate.Gate.{Gate}
 use Rattle.dn_word.specs.declared.packed.deed.DeedState.{DeedState}
@@ -9,7 +9,7 @@ use Rattle.dn_act.specs.declared.actions.Action.{Action}
 use Rattle.dn_act.specs.declared.actions.Action.TheVariants.{Load}
 use Rattle.dn_model.specs.Regions.{gate_at, mark_at, deed_at}
 use Rattle.dn_model.specs.Program.{Program, Return, ◌>>=◌, load, store, cas, or, Turn, Goes, Ends, Runs}
-use Rattle.dn_monitor.specs.Grant.{granted, leaving}
+use Rattle.dn_monitor.specs.Grant.{granted_word, leaving_word}
 use Rattle.dn_monitor.specs.Monitor.{Monitoring, is_lane, slot_in, heir_of, monitor_next, monitor_turn, monitor_after}
 use Rattle.dn_monitor.specs.declared.orders.Order.{Order}
 use Rattle.dn_monitor.specs.declared.orders.Order.TheVariants as order
@@ -24,7 +24,8 @@ use Rattle.dn_monitor.specs.declared.places.MonitorPlace.TheVariants as at
 
 -- An order as programs. One that may wait, or whose exchange may find another word, has a program a round.
 
--- where a round begins: at a slot; or, after the mark was behind, at the load of the mark, with the deed and the gate that were loaded
+-- where a round begins: at a slot; or where the mark was behind, at its load, with the deed and the gate that were
+-- loaded
 pub data Round : Type 0 where
   Begin : Errand → Round
   Await : Errand → ℕ → Gate → Round
@@ -47,25 +48,32 @@ after_grant (Takeover lane slot n) new = next_slot lane slot (n + 1)
 -- the exchange for this deed
 abbrev pub exchange : Errand → ℕ → ℕ → Program RoundEnd
 exchange errand deed new =
-    cas (deed_at (slot_in errand)) deed new >>= λ found. if found == deed then Return (after_grant errand new) else Return (Again (Begin errand))
+    cas (deed_at (slot_in errand)) deed new >>= λ found.
+    if found == deed then Return (after_grant errand new) else Return (Again (Begin errand))
 
 -- a deed of the last epoch isn't granted
 abbrev pub grant : ℕ → Errand → ℕ → Option Gate → Program RoundEnd
 grant heir errand deed gate =
-    if (deed_of deed).epoch == 2 ^ 23 - 1 then Return (Over (Worn (deed_of deed).epoch)) else exchange errand deed (deed_word (granted (deed_of deed) gate heir))
+    if (deed_of deed).epoch == 2 ^ 23 - 1
+    then Return (Over (Worn (deed_of deed).epoch))
+    else exchange errand deed (granted_word deed gate heir)
 
 -- it follows a mark that is not below the length of the log
 abbrev pub await : ℕ → Errand → ℕ → Gate → Program RoundEnd
 await heir errand deed gate =
     load (mark_at (deed_of deed).lane) >>= λ mark.
-    if nat_lt mark gate.len then Return (Tells (Waiting mark gate.len) (Await errand deed gate)) else grant heir errand deed (Some gate)
+    if nat_lt mark gate.len
+    then Return (Tells (Waiting mark gate.len) (Await errand deed gate))
+    else grant heir errand deed (Some gate)
 
 -- ---- a slot that is moved
 -- a lane that leaves has the slot until it has given it up or is fenced
 abbrev pub leave : ℕ → ℕ → ℕ → Program RoundEnd
 leave slot to deed =
     load (gate_at (deed_of deed).lane) >>= λ gate.
-    if (gate_of gate).fenced then await to (Move slot to) deed (gate_of gate) else Return (Tells (Held deed) (Begin (Move slot to)))
+    if (gate_of gate).fenced
+    then await to (Move slot to) deed (gate_of gate)
+    else Return (Tells (Held deed) (Begin (Move slot to)))
 
 -- one that has given it up seals nothing more for it
 abbrev pub left : ℕ → ℕ → ℕ → Program RoundEnd
@@ -73,14 +81,18 @@ left slot to deed = load (gate_at (deed_of deed).lane) >>= λ gate. await to (Mo
 
 -- another lane that owns it is asked to leave
 abbrev pub ask : ℕ → ℕ → ℕ → Program RoundEnd
-ask slot to deed = cas (deed_at slot) deed (deed_word (leaving (deed_of deed))) >>= λ found. Return (Again (Begin (Move slot to)))
+ask slot to deed = cas (deed_at slot) deed (leaving_word deed) >>= λ found. Return (Again (Begin (Move slot to)))
 
--- by the deed's state; where a lane that leaves or has left isn't from 1 to 63, there is none to wait for
+-- where a lane that leaves or has left isn't from 1 to 63, there is none to wait for
+abbrev pub yield : ℕ → ℕ → ℕ → Program RoundEnd → Program RoundEnd
+yield slot to deed behind = if is_lane (deed_of deed).lane then behind else grant to (Move slot to) deed None
+
+-- by the deed's state
 abbrev pub by_state : ℕ → ℕ → ℕ → DeedState → Program RoundEnd
 by_state slot to deed Nobody = grant to (Move slot to) deed None
 by_state slot to deed Owned = if (deed_of deed).lane == to then Return (Over (Granted deed)) else ask slot to deed
-by_state slot to deed Leaving = if is_lane (deed_of deed).lane then leave slot to deed else grant to (Move slot to) deed None
-by_state slot to deed Released = if is_lane (deed_of deed).lane then left slot to deed else grant to (Move slot to) deed None
+by_state slot to deed Leaving = yield slot to deed (leave slot to deed)
+by_state slot to deed Released = yield slot to deed (left slot to deed)
 
 abbrev pub move : ℕ → ℕ → Program RoundEnd
 move slot to = load (deed_at slot) >>= λ deed. by_state slot to deed (deed_of deed).state
@@ -90,11 +102,14 @@ move slot to = load (deed_at slot) >>= λ deed. by_state slot to deed (deed_of d
 abbrev pub take : ℕ → ℕ → ℕ → ℕ → ℕ → Program RoundEnd
 take heir lane slot n deed =
     load (gate_at lane) >>= λ gate.
-    if (gate_of gate).fenced then await heir (Takeover lane slot n) deed (gate_of gate) else Return (Over (NotFenced gate))
+    if (gate_of gate).fenced
+    then await heir (Takeover lane slot n) deed (gate_of gate)
+    else Return (Over (NotFenced gate))
 
 abbrev pub takeover : ℕ → ℕ → ℕ → ℕ → Program RoundEnd
 takeover heir lane slot n =
-    load (deed_at slot) >>= λ deed. if (deed_of deed).lane == lane then take heir lane slot n deed else Return (next_slot lane slot n)
+    load (deed_at slot) >>= λ deed.
+    if (deed_of deed).lane == lane then take heir lane slot n deed else Return (next_slot lane slot n)
 
 -- ---- the orders
 -- a round, by the lanes that a takeover gives the slots to
@@ -105,7 +120,8 @@ round heirs (Await errand deed gate) = await (heir_of heirs errand) errand deed 
 
 -- an order, up to the end of its first round
 abbrev pub sequence : List ℕ → Order → Program RoundEnd
-sequence heirs (order.Format segments) = store 0 (format_word (record { segments = segments; number = 1 })) >>= λ old. Return (Over (Formatted old))
+sequence heirs (order.Format segments) =
+    store 0 (format_word (record { segments = segments; number = 1 })) >>= λ old. Return (Over (Formatted old))
 sequence heirs (order.Look slot) = load (deed_at slot) >>= λ deed. Return (Over (Looked deed))
 sequence heirs (order.Move slot to) = round heirs (Begin (Move slot to))
 sequence heirs (order.Fence lane) = or (gate_at lane) (2 ^ 63) >>= λ old. Return (Over (Barred old))

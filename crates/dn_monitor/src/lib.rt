@@ -1,4 +1,7 @@
-//! The monitor: the orders that lay out the pool and give slots of the key space to lanes, an action on one word of the pool at a time.
+//! The monitor: the orders that lay out the pool, fence lanes, and give the slots of the key space to lanes, an
+//! action on one word of the pool at a time.
+//!
+//! No call of this crate takes memory.
 #![tactic(auto)]
 
 mod monitors;

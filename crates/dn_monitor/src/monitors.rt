@@ -1,5 +1,6 @@
 ghost use Rattle.std.specs.Prelude.{◌≡◌, ◌≢◌, ◌<◌, ◌≤◌, ◌+◌, ◌^◌, ◌↔◌, ℕ, Option, Some, IsNone, IsTrue, All};
 ghost use Rattle.std.specs.List.Sorted.{IsStrictlyIncreasing};
+ghost use Rattle.dn_word.specs.declared.packed.gate.Gate.{Gate as Sealing};
 ghost use Rattle.dn_act.specs.declared.actions.Action.{Action as Acting};
 ghost use Rattle.dn_monitor.specs.Monitor.{first_place, begun, monitor_next, monitor_turn, monitor_after, is_last, slot_in, heir_of, IsOrder, IsErrand};
 ghost use Rattle.dn_monitor.specs.Heirs.{AreHeirs};
@@ -7,7 +8,6 @@ ghost use Rattle.dn_monitor.specs.Words.{IsOfMonitor};
 ghost use Rattle.dn_monitor.specs.Causes.{IsFormatted, IsLooked, IsGranted, IsBarred, IsTaken, IsHeld, IsWaiting, IsNotFenced, IsWorn, IsToGrant};
 ghost use Rattle.dn_monitor.specs.declared.orders.MonitorTurn.TheVariants.{Answered};
 ghost use Rattle.dn_monitor.specs.declared.orders.MonitorAnswer.TheVariants.{Formatted, Looked, Granted, Barred, Taken, Held, Waiting, NotFenced, Worn};
-ghost use Rattle.dn_word.specs.declared.packed.gate.Gate.{Gate};
 ghost use Rattle.dn_monitor.specs.Sequence.{sequence, CarriesOut, CarriesOutRounds};
 
 use crate::orders::{MonitorAnswer, MonitorTurn, Order};
@@ -16,20 +16,19 @@ use crate::steps::{after, ask, grant};
 use dn_act::Action;
 use dn_ring::assign;
 use dn_word::regions::{FORMAT_AT, deed_at, gate_at, mark_at};
-use dn_word::{Deed, FORMAT_NUMBER, Format};
+use dn_word::{Deed, FORMAT_NUMBER, Format, Gate};
 use std::marker::Model;
-
-/// The bit of a gate's word that fences its lane.
-const FENCED: u64 = 1 << 63;
 
 /// The slots of the key space.
 const SLOTS: usize = 64;
 
-/// A monitor with its order, an action at a time. It changes the format, the bit of a gate, and deeds, each by one exchange.
+/// A monitor with its order, an action at a time. It stores the format, sets the bit of a gate, or exchanges deeds.
 ///
-/// A slot is moved in three steps: its deed asks the lane that owns it to leave, the lane gives it up, and the monitor grants it to
-/// another. A fenced lane needn't give it up, since it seals nothing more. The grant waits until all that the lane sealed is merged into
-/// the index, and raises the deed's epoch by one and its floor to the lane's stamp at least.
+/// A slot is moved in three steps: its deed asks the lane that owns it to leave, the lane gives it up, and the
+/// monitor grants it to another. A fenced lane needn't give it up, since it seals nothing more. The grant waits until
+/// all that the lane sealed is merged into the index. It raises the deed's epoch by one, and its floor to at least
+/// the stamp of the lane that had the slot, so that no later receipt stands below one of that lane. As in DINOMO no
+/// record is moved.
 #[derive(Drop)]
 pub struct Monitor {
     /// The lane that a takeover gives each slot to, 0 being nobody.
@@ -69,6 +68,18 @@ fn heir_in(heirs: &[u8; SLOTS], errand: Errand) -> u8
     }
 }
 
+/// The word of a gate of which only the bit of the fence is set.
+fn fence() -> u64
+    ensures { result ≡ 2 ^ 63 }
+{
+    let gate = Gate {
+        fenced: true,
+        stamp: 0,
+        len: 0,
+    };
+    gate.word()
+}
+
 /// Where an order begins.
 fn begin(order: Order) -> MonitorPlace
     requires { IsOrder order }
@@ -106,9 +117,9 @@ fn heirs(order: Order, live: &[u8]) -> [u8; SLOTS]
 }
 
 impl Monitor {
-    /// The monitor of an order, before its first action. A slot of the order is below 64, its lanes are from 1 to 63, and so are the
-    /// live lanes, which rise. By consistent hashing a takeover gives each slot to the live lane that the ring names, and to nobody where
-    /// no lane is live.
+    /// The monitor of an order, before its first action. A slot of the order is below 64, its lanes are from 1 to 63,
+    /// and so are the live lanes, which rise. A takeover gives each slot to the live lane that the ring names for it,
+    /// by consistent hashing, and to nobody where no lane is live; the other orders don't look at the live lanes.
     pub fn new(order: Order, live: &[u8]) -> Monitor
         requires order { IsOrder order }
         requires rising { IsStrictlyIncreasing live.now }
@@ -123,7 +134,8 @@ impl Monitor {
         }
     }
 
-    /// The next action, or None exactly after the last answer.
+    /// The next action, or None exactly after the last answer: a load of the gate or the merged mark of a lane or of
+    /// a slot's deed, the store of the format, the or of the bit of a gate, or an exchange of a deed.
     pub fn next(&self) -> Option<Action>
         ensures value { result ≡ monitor_next self.now }
         ensures done { IsNone result ↔ (self.now.place ≡ MonitorPlace.Done) }
@@ -144,7 +156,7 @@ impl Monitor {
             MonitorPlace::Look { slot } => Action::Load { at: deed_at(slot) },
             MonitorPlace::Fence { lane } => Action::Or {
                 at: gate_at(lane),
-                bits: FENCED,
+                bits: fence(),
             },
             MonitorPlace::Deed { errand } => Action::Load {
                 at: deed_at(slot_of(errand)),
@@ -169,7 +181,9 @@ impl Monitor {
         Some(action)
     }
 
-    /// Takes the word that the action found. There is a next action.
+    /// Takes the word that the action found; there is a next action. Each answer of [`MonitorAnswer`] comes exactly
+    /// where it says. After `Held` the slot's deed is loaded again, after `Waiting` the mark is, and after each other
+    /// answer the order is over.
     pub fn take(&mut self, word: u64) -> MonitorTurn
         requires { self.old.place ≢ MonitorPlace.Done }
         ensures turn { result ≡ monitor_turn self.old word }
@@ -195,7 +209,7 @@ impl Monitor {
             (result ≡ Answered (NotFenced gate)) ↔ IsNotFenced gate word self.old.place }
         ensures worn { (epoch : ℕ) →
             (result ≡ Answered (Worn epoch)) ↔ IsWorn epoch word self.old.place }
-        ensures grants { (errand : Errand) (deed : ℕ) (gate : Option Gate) →
+        ensures grants { (errand : Errand) (deed : ℕ) (gate : Option Sealing) →
             self.new.place ≡ MonitorPlace.Grant errand deed gate →
             IsToGrant deed word self.old.place }
         ensures rounds { CarriesOutRounds self.new }

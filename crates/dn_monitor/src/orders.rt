@@ -26,13 +26,15 @@ pub enum MonitorAnswer {
     Barred { old: u64 },
     /// All 64 slots are passed, and `slots` of them were granted.
     Taken { slots: u8 },
-    /// The lane that was asked to leave the slot still has it. `deed` is the word that asks it. The deed is loaded again.
+    /// The lane that was asked to leave the slot still has it, and isn't fenced. `deed` is the word that asks it. The
+    /// deed is loaded again.
     Held { deed: u64 },
-    /// The merged mark of the lane that had the slot, in words, is below `need`, the length of its log. The mark is loaded again.
+    /// The merged mark of the lane that had the slot is below `need`, the length of its log; both are in words. The
+    /// mark is loaded again.
     Waiting { mark: u64, need: u32 },
     /// The lane whose slots are to be taken isn't fenced. `word` is its gate's word.
     NotFenced { word: u64 },
-    /// The deed to be granted has the greatest epoch, 2^23 - 1. It stays as it is.
+    /// The deed that is to be granted has the greatest epoch, 2^23 - 1. It stays as it is.
     Worn { epoch: u32 },
 }
 

@@ -41,13 +41,15 @@ pub enum MonitorPlace {
         errand: Errand,
         deed: u64,
     },
-    /// That lane seals nothing more for the slot: loads its merged mark. `gate` was read after the lane gave the slot up or was fenced.
+    /// That lane seals nothing more for the slot: loads its merged mark. `gate` was read after the lane gave the slot
+    /// up or was fenced.
     Mark {
         errand: Errand,
         deed: u64,
         gate: Gate,
     },
-    /// All that the lane sealed for the slot is merged, or no lane had the slot, and then there is no gate: exchanges the deed for the grant.
+    /// All that the lane sealed for the slot is merged, or no lane had the slot, and then there is no gate: exchanges
+    /// the deed for the grant.
     Grant {
         errand: Errand,
         deed: u64,

@@ -3,7 +3,7 @@
 ghost use Rattle.std.specs.Prelude.{◌≡◌, ◌<◌, ◌≤◌, ◌+◌, ◌^◌, ◌↔◌, ℕ, IsTrue, true};
 ghost use Rattle.dn_word.specs.Gate.{gate_of};
 ghost use Rattle.dn_word.specs.Deed.{deed_of, deed_word};
-ghost use Rattle.dn_monitor.specs.Grant.{owned_by, raised, granted, leaving};
+ghost use Rattle.dn_monitor.specs.Grant.{owned_by, raised, granted, granted_word, leaving, leaving_word};
 ghost use Rattle.dn_monitor.specs.Monitor.{is_lane, on, told, ended, granting, yielding, passed, after_deed, by_state, after_gate, after_mark, won, after_grant, step_in, IsErrand, IsGate, MayGate, NamesLane, IsPlace};
 
 use crate::orders::{MonitorAnswer, MonitorTurn};
@@ -58,7 +58,7 @@ fn is_lane(lane: u8) -> bool
 pub(crate) fn grant(deed: u64, gate: Option<Gate>, to: u8) -> u64
     requires epoch { (deed_of deed).epoch + 1 < 2 ^ 23 }
     requires gate { MayGate gate }
-    ensures value { result ≡ deed_word (granted (deed_of deed) gate to) }
+    ensures value { result ≡ granted_word deed gate to }
     ensures again { deed_of result ≡ granted (deed_of deed) gate to }
 {
     let deed = Deed::read(deed);
@@ -82,7 +82,7 @@ pub(crate) fn grant(deed: u64, gate: Option<Gate>, to: u8) -> u64
 
 /// The deed that asks its lane to leave.
 pub(crate) fn ask(deed: u64) -> u64
-    ensures value { result ≡ deed_word (leaving (deed_of deed)) }
+    ensures value { result ≡ leaving_word deed }
     ensures again { deed_of result ≡ leaving (deed_of deed) }
 {
     let leaving = Deed {

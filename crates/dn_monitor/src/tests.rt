@@ -26,8 +26,8 @@ const LEAVING: u64 = 0x8000008080000000;
 
 const RELEASED: u64 = 0xc000008080000000;
 
-/// Slot 3, whose deed stands at 195, goes from lane 1, whose gate and mark stand at 65 and 129, to lane 2. The lane seals a record
-/// between the gate that showed it Held and its release, and is merged after two loads of the mark.
+/// Slot 3, whose deed stands at 195, goes from lane 1, whose gate and mark stand at 65 and 129, to lane 2. The lane
+/// seals a record between the gate that showed it Held and its release, and is merged after two loads of the mark.
 const HANDED_OVER: [Event; 16] = [
     Write(195, OWNED),
     Write(65, 0x0000000100000003),
@@ -109,7 +109,8 @@ const LONE: [(u64, u32, MonitorAnswer); 5] = [
     (0xffffff8080000000, 2, Worn { epoch: 8388607 }),
 ];
 
-/// Lane 1, fenced with stamp 1 and length 3, has slot 3, which is Leaving, and slot 63. Another epoch is met at slot 3.
+/// Lane 1, fenced with stamp 1 and length 3, has slot 3, which is Leaving, and slot 63. Another epoch is met at slot
+/// 3.
 const TAKEN_OVER: [Event; 15] = [
     Write(195, LEAVING),
     Write(255, OWNED),
