@@ -1,7 +1,5 @@
 ghost use Rattle.std.specs.Prelude.{◌≡◌, ◌≢◌, ◌<◌, ◌≤◌, ◌+◌, ◌^◌, ◌↔◌, ℕ, Option, Some, IsNone, IsTrue, All};
 ghost use Rattle.std.specs.List.Sorted.{IsStrictlyIncreasing};
-ghost use Rattle.dn_word.specs.declared.packed.gate.Gate.{Gate as Sealing};
-ghost use Rattle.dn_act.specs.declared.actions.Action.{Action as Acting};
 ghost use Rattle.dn_monitor.specs.Monitor.{first_place, begun, monitor_next, monitor_turn, monitor_after, is_last, slot_in, heir_of, IsOrder, IsErrand};
 ghost use Rattle.dn_monitor.specs.Heirs.{AreHeirs};
 ghost use Rattle.dn_monitor.specs.Words.{IsOfMonitor};
@@ -139,7 +137,7 @@ impl Monitor {
     pub fn next(&self) -> Option<Action>
         ensures value { result ≡ monitor_next self.now }
         ensures done { IsNone result ↔ (self.now.place ≡ MonitorPlace.Done) }
-        ensures within { (action : Acting) → result ≡ Some action → IsOfMonitor action }
+        ensures within { (action : Action) → result ≡ Some action → IsOfMonitor action }
     {
         let action = match self.place {
             MonitorPlace::Done => return None,
@@ -209,7 +207,7 @@ impl Monitor {
             (result ≡ Answered (NotFenced gate)) ↔ IsNotFenced gate word self.old.place }
         ensures worn { (epoch : ℕ) →
             (result ≡ Answered (Worn epoch)) ↔ IsWorn epoch word self.old.place }
-        ensures grants { (errand : Errand) (deed : ℕ) (gate : Option Sealing) →
+        ensures grants { (errand : Errand) (deed : ℕ) (gate : Option Gate) →
             self.new.place ≡ MonitorPlace.Grant errand deed gate →
             IsToGrant deed word self.old.place }
         ensures rounds { CarriesOutRounds self.new }
