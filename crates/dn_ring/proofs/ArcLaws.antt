@@ -1,4 +1,4 @@
-use Rattle.std.proofs.Common.{length-set, replicate, zero, suc, ◌-◌, ◌%◌, ◌≡◌, ◌≢◌, ℕ, ◌+◌, ◌*◌, ◌/◌, ◌^◌, ◌<◌, ◌≤◌, ◌⊎◌, inl, inr, Bool, true, false, List, Option, Some, None, length, nat_lt, slice_index, slice_index_or, slice_set, get_or-set_same, get_or-set_other, if◌then◌else◌, refl, below_more, sym, subst, ap, arith}
+use Rattle.std.proofs.Common.{length-set, replicate, zero, suc, ◌-◌, ◌%◌, ◌≡◌, ◌≢◌, ℕ, ◌+◌, ◌*◌, ◌/◌, ◌<◌, ◌≤◌, ◌⊎◌, inl, inr, Bool, true, false, List, Option, Some, None, length, nat_lt, slice_index, slice_index_or, slice_set, get_or-set_same, get_or-set_other, if◌then◌else◌, refl, below_more, sym, subst, ap, arith}
 use Rattle.std.specs.List.Sorted.{IsStrictlyIncreasing}
 use Rattle.std.proofs.lemmas.Bool.{cases_eq, ltb-true}
 use Rattle.std.proofs.lemmas.List.{get_or-replicate, length-replicate}

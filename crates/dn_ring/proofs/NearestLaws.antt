@@ -1,4 +1,4 @@
-use Rattle.std.proofs.Common.{◌≡◌, ◌≢◌, ℕ, ◌+◌, ◌*◌, ◌<◌, ◌≤◌, ◌||◌, ◌&&◌, Bool, true, false, List, [], Option, Some, None, length, slice_index, nat_eq, nat_lt, if◌then◌else◌, refl, below_more, sym, subst, ap, arith}
+use Rattle.std.proofs.Common.{◌≡◌, ℕ, ◌+◌, ◌*◌, ◌<◌, ◌≤◌, ◌||◌, ◌&&◌, Bool, true, false, List, Option, Some, None, slice_index, nat_eq, nat_lt, if◌then◌else◌, refl, below_more, subst, arith}
 use Rattle.std.proofs.lemmas.Bool.Decides.{nat_tests}
 use Rattle.dn_ring.specs.declared.points.Point.{Point}
 use Rattle.dn_ring.specs.Ring.{point_of, distance}

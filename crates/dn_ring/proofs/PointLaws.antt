@@ -2,7 +2,7 @@ use Rattle.std.proofs.Common.{◌≡◌, ℕ, ◌+◌, ◌*◌, ◌/◌, ◌%◌
 use Rattle.std.specs.Int.{w64, to_le_bytes}
 use Rattle.std.proofs.lemmas.Grind.{get_or_default_zero}
 use Rattle.std.proofs.lemmas.List.Elements.{Contains-get_or}
-use Rattle.dn_word.specs.Hash.{hash_step, hash_of}
+use Rattle.dn_word.specs.Hash.{hash_step}
 use Rattle.dn_ring.specs.declared.points.Point.{Point}
 use Rattle.dn_ring.specs.Ring.{point_of, distance, IsOwner}
 use Rattle.dn_ring.specs.Counted.{nth_point, IsNearest}

@@ -1,4 +1,4 @@
-use Rattle.std.proofs.Common.{replicate, length-set, ◌∷◌, slice_set, get_or-set_same, get_or-set_other, ◌⊎◌, inl, inr, refl, Bool, true, false, nat_lt, nat_eq, ◌≡◌, ◌≢◌, ℕ, ◌+◌, ◌-◌, ◌*◌, ◌/◌, ◌%◌, ◌^◌, ◌<◌, ◌≤◌, List, [], Contains, Option, Some, None, length, slice_index, slice_index_or, sym, ◌∙◌, subst, ap, arith}
+use Rattle.std.proofs.Common.{replicate, length-set, ◌∷◌, slice_set, get_or-set_same, get_or-set_other, ◌⊎◌, inl, inr, refl, Bool, true, false, nat_lt, nat_eq, ◌≡◌, ◌≢◌, ℕ, ◌+◌, ◌*◌, ◌/◌, ◌%◌, ◌^◌, ◌<◌, ◌≤◌, List, [], Contains, Option, Some, None, length, slice_index, slice_index_or, sym, ◌∙◌, subst, ap, arith}
 use Rattle.std.proofs.lemmas.Bool.{cases_eq, cases_lt, ltb-true}
 use Rattle.std.proofs.lemmas.List.{get_or-replicate, length-replicate}
 use Rattle.std.proofs.Math.ListN.{get_or-eq_default}
@@ -129,7 +129,8 @@ some_first live firsts some are none =
 pub no_first : (firsts : List (Option Point)) (slot : ℕ) (p : Point) → slot < 64 → AreFirsts [] 0 firsts → slice_index_or firsts slot None ≡ Some p → ⊥
 no_first firsts slot p below are is = let low = known [] 0 slot firsts (Some p) below are is in omega (arith, low.counted)
 
--- from the last slot down to this one each slot has its owner, and the lane is the owner of this one; where no lane is live, all are 0
+-- from the last slot down to this one each slot has its owner, and the lane is the owner of this one; where no lane is
+-- live, all are 0
 pub record IsSwept (live slots : List ℕ) (lane slot : ℕ) : Type 0 where
   pub all : length slots ≡ 64
   pub owner : live ≢ [] → IsOwner live slot lane

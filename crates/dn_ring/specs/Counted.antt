@@ -44,7 +44,8 @@ pub record AreFirsts (live : List ℕ) (count : ℕ) (firsts : List (Option Poin
 
 -- whether a point is met before another from where a slot begins: it is nearer, or as near and of a lower lane
 abbrev pub is_before : ℕ → Point → Point → Bool
-is_before slot p q = nat_lt (distance slot p.at) (distance slot q.at) || (nat_eq (distance slot p.at) (distance slot q.at) && nat_lt p.lane q.lane)
+is_before slot p q = nat_lt (distance slot p.at) (distance slot q.at)
+    || (nat_eq (distance slot p.at) (distance slot q.at) && nat_lt p.lane q.lane)
 
 -- of two points the one that is met first, or the one that was there
 abbrev pub nearer_of : ℕ → Option Point → Point → Point
@@ -57,7 +58,8 @@ pub record IsNearest (live : List ℕ) (slot count : ℕ) (p : Point) : Type 0 w
   pub counted : number < count
   pub same : p ≡ nth_point live number
   pub nearest : (n : ℕ) → n < count → distance slot p.at ≤ distance slot (nth_point live n).at
-  pub lowest : (n : ℕ) → n < count → distance slot p.at ≡ distance slot (nth_point live n).at → p.lane ≤ (nth_point live n).lane
+  pub lowest : (n : ℕ) → n < count → distance slot p.at ≡ distance slot (nth_point live n).at
+      → p.lane ≤ (nth_point live n).lane
 
 -- the nearest of the first so many points, or none where there are none
 abbrev pub IsNearestOf : List ℕ → ℕ → ℕ → Option Point → Type 0

@@ -9,11 +9,13 @@ point_of lane number = hash_of (256 * lane + number)
 abbrev pub distance : ℕ → ℕ → ℕ
 distance slot at = (at + (64 - slot) * 2 ^ 58) % 2 ^ 64
 
--- Of all points of the live lanes this one is met first from where the slot begins: none is nearer, and of those that are as near
--- none is of a lower lane.
+-- Of all points of the live lanes this one is met first from where the slot begins: none is nearer, and of those that
+-- are as near none is of a lower lane.
 pub record IsFirst (live : List ℕ) (slot lane number : ℕ) : Type 0 where
-  pub nearest : (other n : ℕ) → Contains live other → n < 16 → distance slot (point_of lane number) ≤ distance slot (point_of other n)
-  pub lowest : (other n : ℕ) → Contains live other → n < 16 → distance slot (point_of lane number) ≡ distance slot (point_of other n) → lane ≤ other
+  pub nearest : (other n : ℕ) → Contains live other → n < 16
+      → distance slot (point_of lane number) ≤ distance slot (point_of other n)
+  pub lowest : (other n : ℕ) → Contains live other → n < 16
+      → distance slot (point_of lane number) ≡ distance slot (point_of other n) → lane ≤ other
 
 -- A slot's owner is the live lane of which a point is met first.
 pub record IsOwner (live : List ℕ) (slot lane : ℕ) : Type 0 where

@@ -15,7 +15,8 @@ type Firsts = [Option<Point>; 64];
 pub fn assign(live: &[u8]) -> [u8; 64]
     requires rising { IsStrictlyIncreasing live.now }
     requires lanes { All (λ lane. (1 ≤ lane) × (lane < 64)) live.now }
-    ensures owners { live.now ≢ [] → (slot : ℕ) → slot < 64 → IsOwner live.now slot (slice_index result slot) }
+    ensures owners { live.now ≢ [] → (slot : ℕ) → slot < 64
+        → IsOwner live.now slot (slice_index result slot) }
     ensures none { live.now ≡ [] → (slot : ℕ) → slice_index result slot ≡ 0 }
 {
     let firsts = first_points(live);
@@ -63,7 +64,8 @@ fn lane_of(first: Option<Point>, next: u8) -> u8
 
 /// The lane of the lowest point of all, which a slot past all points goes to, or 0 where there is no point.
 fn lowest_lane(firsts: &Firsts) -> u8
-    ensures owner { (live : List ℕ) → live ≢ [] → AreFirsts live (16 * length live) firsts.now → IsOwner live 64 result }
+    ensures owner { (live : List ℕ) → live ≢ [] → AreFirsts live (16 * length live) firsts.now
+        → IsOwner live 64 result }
     ensures none { AreFirsts [] 0 firsts.now → result ≡ 0 }
 {
     for arc in 0..64usize {

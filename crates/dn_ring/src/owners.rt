@@ -4,8 +4,8 @@ ghost use Rattle.dn_ring.specs.Counted.{nearer_of};
 
 use crate::points::{POINTS, Point};
 
-/// The owner of a slot (from 0 to 63) among the live lanes, by a walk over all their points; 0 where no lane is live. It is the
-/// definition carried out, point by point, and what [`assign`](crate::assign) is compared with.
+/// The owner of a slot (from 0 to 63) among the live lanes, by a walk over all their points; 0 where no lane is live.
+/// It is the definition carried out, point by point, and what [`assign`](crate::assign) is compared with.
 pub fn owner(live: &[u8], slot: u8) -> u8
     requires { slot < 64 }
     ensures owner { live.now ≢ [] → IsOwner live.now slot result }
@@ -23,8 +23,8 @@ pub fn owner(live: &[u8], slot: u8) -> u8
     }
 }
 
-/// Of the first point so far and another one the point that is met first from where the slot begins; of two that are as near the one
-/// of the lower lane.
+/// Of the first point so far and another one the point that is met first from where the slot begins; of two that are as
+/// near the one of the lower lane.
 fn nearer(slot: u8, first: Option<Point>, point: Point) -> Point
     requires { slot < 64 }
     ensures { result ≡ nearer_of slot first point }

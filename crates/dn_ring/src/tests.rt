@@ -1,3 +1,6 @@
+ghost use Rattle.std.specs.Prelude.{◌≡◌, ◌<◌, ◌≤◌, ◌+◌, ℕ, All, slice_index};
+ghost use Rattle.std.specs.List.Sorted.{IsStrictlyIncreasing};
+
 use crate::{assign, owner};
 use std::test::Fail;
 
@@ -18,18 +21,36 @@ fn worked_assignments(rt: HostRuntime) -> Result<(), Fail> {
     Ok(())
 }
 
-#[test]
-fn each_slot_as_a_walk_over_all_points_says(rt: HostRuntime) -> Result<(), Fail> {
-    let mut lanes = [0u8; 63];
+/// Whether each slot goes to the lane that a walk over all points names.
+fn agrees(live: &[u8]) -> bool
+    requires rising { IsStrictlyIncreasing live.now }
+    requires lanes { All (λ lane. (1 ≤ lane) × (lane < 64)) live.now }
+{
+    let slots = assign(live);
+    for slot in 0..64u8 {
+        if slots[slot as usize] != owner(live, slot) {
+            return false;
+        }
+    }
+    true
+}
+
+/// All lanes.
+fn all_lanes() -> [u8; 63]
+    ensures { (k : ℕ) → k < 63 → slice_index result k ≡ k + 1 }
+{
+    let mut lanes = [0; 63];
     for place in 0..63usize {
         lanes[place] = place as u8 + 1;
     }
-    let sets: [&[u8]; 4] = [&[9], &[17, 63], &[2, 3, 5, 8, 13, 21, 34, 55], &lanes];
-    for live in sets {
-        let slots = assign(live);
-        for slot in 0..64u8 {
-            assert_eq!(rt; slots[slot as usize], owner(live, slot));
-        }
-    }
+    lanes
+}
+
+#[test]
+fn each_slot_as_a_walk_over_all_points_says(rt: HostRuntime) -> Result<(), Fail> {
+    assert!(rt; agrees(&[9]));
+    assert!(rt; agrees(&[17, 63]));
+    assert!(rt; agrees(&[2, 3, 5, 8, 13, 21, 34, 55]));
+    assert!(rt; agrees(&all_lanes()));
     Ok(())
 }

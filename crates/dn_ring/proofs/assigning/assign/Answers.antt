@@ -1,4 +1,4 @@
-use Rattle.std.proofs.Common.{◌≡◌, ◌+◌, ◌-◌, ◌*◌, ℕ, List, [], None, length, slice_index_or, slice_set, subst, sym, arith}
+use Rattle.std.proofs.Common.{◌≡◌, ◌+◌, ◌-◌, ◌*◌, ℕ, List, length, slice_set, subst, sym, arith}
 use Rattle.dn_ring.specs.Counted.{AreFirsts}
 use Rattle.dn_ring.proofs.SweepLaws.{IsSwept, swept_more, swept_none}
 use Rattle.dn_ring.proofs.assigning.assign.Goals as goal

@@ -1,4 +1,4 @@
-use Rattle.std.proofs.Common.{◌≡◌, ◌+◌, ◌*◌, ℕ, List, Option, length, subst, sym, refl, Some, arith}
+use Rattle.std.proofs.Common.{◌+◌, ◌*◌, List, Option, subst, sym, refl, arith}
 use Rattle.dn_ring.specs.declared.points.Point.{Point}
 use Rattle.dn_ring.specs.Counted.{noted, AreFirsts}
 use Rattle.dn_ring.proofs.ArcLaws.{none_first, noted_more}

@@ -1,6 +1,5 @@
-use Rattle.std.proofs.Common.{◌≡◌, ◌+◌, ◌*◌, ℕ, length, subst, sym, refl, Option, Some, arith}
+use Rattle.std.proofs.Common.{◌≡◌, ◌+◌, ◌*◌, length, subst, sym, refl, Option, Some, arith}
 use Rattle.dn_ring.specs.declared.points.Point.{Point}
-use Rattle.dn_ring.specs.Ring.{IsOwner}
 use Rattle.dn_ring.specs.Counted.{nearer_of, IsNearestOf, IsNearest}
 use Rattle.dn_ring.proofs.PointLaws.{nearest_owns}
 use Rattle.dn_ring.proofs.NearestLaws.{nearest_more}
