@@ -3,7 +3,6 @@ mod CountLemmas
 mod CourseLemmas
 mod FinishLemmas
 mod KeyLemmas
-mod KeyLemmas
 mod OneOrder
 mod OpenLemmas
 mod OutputLaw

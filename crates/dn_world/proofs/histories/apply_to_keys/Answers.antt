@@ -1,4 +1,3 @@
-use Rattle.std.proofs.Common.{sym, ◌∙◌}
 use Rattle.dn_world.proofs.KeyLemmas.{put_keys, removed_keys}
 use Rattle.dn_world.proofs.histories.apply_to_keys.Goals as goal
 

@@ -1,4 +1,4 @@
-use Rattle.std.proofs.Common.{◌≡◌, ◌+◌, List, arith, refl, ap, sym, subst, drop, get_or, ◌∙◌}
+use Rattle.std.proofs.Common.{◌+◌, arith, refl, ap, sym, subst, drop, ◌∙◌}
 use Rattle.std.proofs.lemmas.List.{at_drop_more}
 use Rattle.std.specs.FinMap.{empty}
 use Rattle.dn_hist.specs.Calls.{Bytes, map_after}

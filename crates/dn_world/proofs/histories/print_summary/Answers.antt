@@ -1,4 +1,4 @@
-use Rattle.std.proofs.Common.{◌≡◌, ◌++◌, ap, ◌∙◌}
+use Rattle.std.proofs.Common.{◌++◌, ap, ◌∙◌}
 use Rattle.std.specs.FinMap.{len}
 use Rattle.std.proofs.lemmas.Result.{on_ok_weaker}
 use Rattle.dn_hist.specs.Replay.{map_left}
