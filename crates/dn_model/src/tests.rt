@@ -1,5 +1,5 @@
 use crate::{MapFault, pool_map};
-use dn_word::regions::{bucket_at, cell_at, deed_at, directory_at, gate_at, mark_at, segment_at};
+use dn_word::regions::{bucket_at, cell_at, deed_at, directory_at, gate_at, mark_at};
 use std::alloc::Global;
 use std::test::Fail;
 
@@ -7,6 +7,8 @@ use std::test::Fail;
 const DIRECTORY: usize = 1280;
 
 const SEGMENT: usize = 98304;
+
+const SECOND_SEGMENT: usize = 99328;
 
 const PUT_A: [u64; 3] = [0x0100010000000300, 5, 0x61];
 
@@ -179,33 +181,26 @@ fn the_index_by_hand(rt: HostRuntime) -> Result<(), Fail> {
     Ok(())
 }
 
-/// The deed of key 5's slot, the gate, mark and log of lane 1 and the log of lane 2, the place that the index has for key 5 (0 for
-/// none), and cell 0.
+/// The deed of key 5's slot, the gate and mark of lane 1, the place that the index has for key 5 (0 for none), and cell 0.
 #[derive(Clone, Copy)]
-struct Words<'a> {
+struct Words {
     deed: u64,
     gate: u64,
     mark: u64,
-    log: &'a [u64],
-    other: &'a [u64],
     place: u64,
     cell: u64,
 }
 
-/// Lane 1 has segment 0, and lane 2 segment 1.
-fn pool_of_two(alloc: Global, given: &Words<'_>) -> Result<Vec<u64>, Fail> {
-    let mut words = pool(alloc, given.gate, given.log)?;
+/// A pool of two segments with these words and the logs of lanes 1 and 2, each in a segment of its own.
+fn pool_of_two(alloc: Global, given: Words, log: &[u64], other: &[u64]) -> Result<Vec<u64>, Fail> {
+    let mut words = pool(alloc, given.gate, log)?;
     words.resize(100352, 0)?;
     set(&mut words, deed_at(3) as usize, given.deed);
     set(&mut words, mark_at(1) as usize, given.mark);
     set(&mut words, directory_at(2, 0) as usize, 2);
-    set(&mut words, gate_at(2) as usize, given.other.len() as u64);
-    for (at, word) in given.other.iter().enumerate() {
-        set(
-            &mut words,
-            segment_at(1).saturating_add(at as u32) as usize,
-            *word,
-        );
+    set(&mut words, gate_at(2) as usize, other.len() as u64);
+    for (at, word) in other.iter().enumerate() {
+        set(&mut words, SECOND_SEGMENT.saturating_add(at), *word);
     }
     if given.place != 0 {
         set(&mut words, bucket_at(222) as usize + 1, 5);
@@ -219,11 +214,11 @@ fn pool_of_two(alloc: Global, given: &Words<'_>) -> Result<Vec<u64>, Fail> {
 fn owners_marks_and_cells_by_hand(rt: HostRuntime) -> Result<(), Fail> {
     let none: &[u64] = &[];
     let put = PUT_A.as_slice();
-    let put_b = [0x0100010000000300, 5, 0x62];
-    let loose = [0x0500010000000300, 5, 0x62];
-    let deleted = [0x0100010000000300, 5, 0x61, 0x0200000000000200, 5];
-    let twice = [0x0100010000000300, 5, 0x61, 0x0100010000000300, 5, 0x62];
-    let shared = [
+    let put_b: &[u64] = &[0x0100010000000300, 5, 0x62];
+    let loose: &[u64] = &[0x0500010000000300, 5, 0x62];
+    let deleted: &[u64] = &[0x0100010000000300, 5, 0x61, 0x0200000000000200, 5];
+    let twice: &[u64] = &[0x0100010000000300, 5, 0x61, 0x0100010000000300, 5, 0x62];
+    let shared: &[u64] = &[
         0x0100010000000300,
         5,
         0x61,
@@ -231,7 +226,7 @@ fn owners_marks_and_cells_by_hand(rt: HostRuntime) -> Result<(), Fail> {
         5,
         0x0000000201000000,
     ];
-    let unshared = [
+    let unshared: &[u64] = &[
         0x0100010000000300,
         5,
         0x61,
@@ -239,76 +234,70 @@ fn owners_marks_and_cells_by_hand(rt: HostRuntime) -> Result<(), Fail> {
         5,
         0x0000000001000000,
     ];
-    let emptied = [0x0100010000000300, 5, 0x61, 0x0400000000000300, 5, 0];
+    let emptied: &[u64] = &[0x0100010000000300, 5, 0x61, 0x0400000000000300, 5, 0];
     let first = Words {
         deed: 0x4000008080000000,
         gate: 3,
         mark: 0,
-        log: put,
-        other: none,
         place: 0,
         cell: 0,
+    };
+    let long = Words { gate: 6, ..first };
+    let indexed = Words {
+        mark: 3,
+        place: 0x01000000,
+        ..first
+    };
+    let later = Words {
+        mark: 6,
+        place: 0x01000003,
+        ..long
     };
     let of_two = Words {
         deed: 0x4000010100000000,
         ..first
     };
-    let nobodys = Words {
-        deed: 0x0000008000000000,
-        ..first
-    };
-    let of_no_lane = Words {
-        deed: 0x400000a000000000,
-        ..first
-    };
-    let long = Words { gate: 6, ..first };
-    for (name, given, want) in [
+    for (name, given, log, other, want) in [
         (
             "an unmerged delete over an indexed put",
-            Words {
-                gate: 5,
-                mark: 3,
-                log: deleted.as_slice(),
-                place: 0x01000000,
-                ..first
-            },
+            Words { gate: 5, ..indexed },
+            deleted,
+            none,
             "absent",
         ),
         (
             "a mark between two records",
-            Words {
-                mark: 3,
-                log: twice.as_slice(),
-                place: 0x01000000,
-                ..long
-            },
+            Words { gate: 6, ..indexed },
+            twice,
+            none,
             "b",
         ),
         (
             "a mark behind both",
             Words {
-                mark: 6,
-                log: twice.as_slice(),
                 place: 0x01000000,
-                ..long
+                ..later
             },
+            twice,
+            none,
             "a",
         ),
-        ("a record of a lane that isn't the owner", of_two, "absent"),
         (
-            "the owner's own record",
-            Words {
-                other: put_b.as_slice(),
-                ..of_two
-            },
-            "b",
+            "a record of a lane that isn't the owner",
+            of_two,
+            put,
+            none,
+            "absent",
         ),
+        ("the owner's own record", of_two, put, put_b, "b"),
         (
             "a deed that is Leaving",
             Words {
                 deed: 0x8000008080000000,
                 ..first
             },
+            put,
+            none,
             "a",
         ),
         (
@@ -317,68 +306,71 @@ fn owners_marks_and_cells_by_hand(rt: HostRuntime) -> Result<(), Fail> {
                 deed: 0xc000008080000000,
                 ..first
             },
+            put,
+            none,
             "a",
         ),
-        ("a deed of nobody", nobodys, "absent"),
         (
-            "a deed of nobody over an index",
+            "a deed of nobody",
             Words {
-                mark: 3,
-                place: 0x01000000,
-                ..nobodys
+                deed: 0x0000008000000000,
+                ..first
             },
+            put,
+            none,
+            "absent",
+        ),
+        (
+            "one of nobody over an index",
+            Words {
+                deed: 0x0000008000000000,
+                ..indexed
+            },
+            put,
+            none,
             "a",
         ),
-        ("a deed of lane 64", of_no_lane, "absent"),
         (
-            "a deed of lane 64 over an index",
+            "a deed of lane 64",
             Words {
-                mark: 3,
-                place: 0x01000000,
-                ..of_no_lane
+                deed: 0x400000a000000000,
+                ..first
             },
+            put,
+            none,
+            "absent",
+        ),
+        (
+            "one of lane 64 over an index",
+            Words {
+                deed: 0x400000a000000000,
+                ..indexed
+            },
+            put,
+            none,
             "a",
         ),
         (
             "a cell that leads to another lane",
             Words {
-                log: shared.as_slice(),
-                other: loose.as_slice(),
                 cell: 0x0000000302000000,
                 ..long
             },
+            shared,
+            loose,
             "b",
         ),
-        (
-            "an index that leads to a share",
-            Words {
-                mark: 6,
-                log: shared.as_slice(),
-                place: 0x01000003,
-                ..long
-            },
-            "a",
-        ),
+        ("an index that leads to a share", later, shared, none, "a"),
         (
             "an index that leads to an unshare",
-            Words {
-                mark: 6,
-                log: unshared.as_slice(),
-                place: 0x01000003,
-                ..long
-            },
+            later,
+            unshared,
+            none,
             "a",
         ),
-        (
-            "an unshare of nothing",
-            Words {
-                log: emptied.as_slice(),
-                ..long
-            },
-            "absent",
-        ),
+        ("an unshare of nothing", long, emptied, none, "absent"),
     ] {
-        let words = pool_of_two(rt.alloc(), &given)?;
+        let words = pool_of_two(rt.alloc(), given, log, other)?;
         let found = held(rt.alloc(), words.as_slice())?;
         assert_eq!(rt; found.as_slice(), want.as_bytes(), "at {name}");
     }
