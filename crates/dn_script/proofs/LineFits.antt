@@ -58,7 +58,7 @@ row_fits rules Fail said r h = h.lane
 row_fits rules Trim said r h = h.lane
 row_fits rules Tell said r h = (session_of rules r said.from h.from, session_of rules r said.to h.to)
 
-checked_fits : (rules : Rules) (a b c : Bool) (row : Row) (fields : List (List ℕ)) (said : Said) → AreRules rules
+pub checked_fits : (rules : Rules) (a b c : Bool) (row : Row) (fields : List (List ℕ)) (said : Said) → AreRules rules
     → cond a (Err cause.Mode) (cond b (Err cause.Header) (cond c (Err cause.Count) (reading rules (parts_of row) fields unsaid))) ≡ Ok said → IsSaid rules said
 checked_fits rules true b c row fields said r e = absurd (cc)
 checked_fits rules false true c row fields said r e = absurd (cc)

@@ -21,9 +21,10 @@ use Rattle.dn_script.specs.declared.rows.Part.TheVariants as part
 use Rattle.dn_script.specs.Number.{number_in}
 use Rattle.dn_script.specs.Value.{value_of}
 use Rattle.dn_script.specs.Meaning.{meaning_of}
-use Rattle.dn_script.specs.Played.{IsPlayed, IsPlayedScript}
+use Rattle.dn_script.specs.Played.{IsPlayed}
 use Rattle.dn_script.proofs.ValueFits.{in_range}
-use Rattle.dn_script.proofs.SaidFits.{then_fits}
+use Rattle.dn_script.proofs.SaidFits.{AreRules, IsSaid, then_fits}
+use Rattle.dn_script.proofs.LineFits.{checked_fits}
 use Rattle.dn_script.proofs.Walks.{line_gives, drafted_keeps}
 use Rattle.dn_script.specs.Table.{table, parts_of}
 use Rattle.dn_script.specs.Said.{Said, unsaid, told, is_start, with_word, with_field, reading}
@@ -79,12 +80,12 @@ reading_keeps rules (part ∷ parts) (field ∷ fields) old said k h e =
 -- ---- the rows of what is played
 pub record Plays (rules : Rules) (row : Row) : Type 0 where
   pub keeps : AllByRecursion (Keeps rules) (parts_of row)
-  pub gives : (said : Said) → IsQuiet said → IsPlayedMeaning (meaning_of row said)
+  pub gives : (said : Said) → IsQuiet said → IsSaid rules said → IsPlayedMeaning (meaning_of row said)
 
 get_rows : (rules : Rules) (form : Form) → rules.sessions ≡ 1 → list_all (is_known played) (parts_of (Get form)) ≡ true → Plays rules (Get form)
 get_rows rules Plain one e = record {
   keeps = (session_keeps rules one, (word_keeps rules verb.Get refl, (key_keeps rules, tt)));
-  gives = λ said q. (q.session, q.named, q.start, tt);
+  gives = λ said q h. record { first = q.session; by_route = q.named; run = q.start; askable = h.key; kind = tt };
 }
 get_rows rules Named one e = absurd (cc)
 get_rows rules Started one e = absurd (cc)
@@ -93,7 +94,7 @@ get_rows rules NamedStarted one e = absurd (cc)
 put_rows : (rules : Rules) (form : Form) → rules.sessions ≡ 1 → list_all (is_known played) (parts_of (Put form)) ≡ true → Plays rules (Put form)
 put_rows rules Plain one e = record {
   keeps = (session_keeps rules one, (word_keeps rules verb.Put refl, (key_keeps rules, (value_keeps rules, tt))));
-  gives = λ said q. (q.session, q.named, q.start, tt);
+  gives = λ said q h. record { first = q.session; by_route = q.named; run = q.start; askable = (h.key, h.value); kind = tt };
 }
 put_rows rules Named one e = absurd (cc)
 put_rows rules Started one e = absurd (cc)
@@ -153,11 +154,15 @@ checked_quiet rules false true c row fields said p e = absurd (cc)
 checked_quiet rules false false true row fields said p e = absurd (cc)
 checked_quiet rules false false false row fields said p e = reading_keeps rules (parts_of row) fields unsaid said p.keeps unsaid_quiet e
 
-judged_plays : (rules : Rules) (header : Header) (late : Bool) (fields : List (List ℕ)) (row : Row) (meaning : Meaning) → Plays rules row → judged rules header late fields row ≡ Ok meaning → IsPlayedMeaning meaning
-judged_plays rules header late fields row meaning p e =
-    then_fits IsQuiet IsPlayedMeaning (checked rules header late fields row) (λ said. Ok (meaning_of row said)) meaning
-    (λ said f. checked_quiet rules (is_barred rules.mode row) (is_misplaced row header late) (not (has_count (parts_of row) (length fields))) row fields said p f)
-    (λ said q f. let same : meaning_of row said ≡ meaning = cc in subst IsPlayedMeaning same (p.gives said q)) e
+judged_plays : (rules : Rules) (header : Header) (late : Bool) (fields : List (List ℕ)) (row : Row) (meaning : Meaning) → AreRules rules → Plays rules row → judged rules header late fields row ≡ Ok meaning
+    → IsPlayedMeaning meaning
+judged_plays rules header late fields row meaning r p e =
+    let barred = is_barred rules.mode row in
+    let misplaced = is_misplaced row header late in
+    let miscounted = not (has_count (parts_of row) (length fields)) in
+    then_fits (λ said. IsQuiet said × IsSaid rules said) IsPlayedMeaning (checked rules header late fields row) (λ said. Ok (meaning_of row said)) meaning
+    (λ said f. (checked_quiet rules barred misplaced miscounted row fields said p f, checked_fits rules barred misplaced miscounted row fields said r f))
+    (λ said q f. let same : meaning_of row said ≡ meaning = cc in subst IsPlayedMeaning same (p.gives said q.0 q.1)) e
 
 -- ---- the script: no header line, and calls alone
 pub record IsPlain (draft : Draft) : Type 0 where
@@ -178,6 +183,13 @@ plain_kept draft (Some (gives.Line line)) d h = record {
   lines = All-append IsPlayed draft.lines (line ∷ []) d.lines (All-cons IsPlayed line [] h (All-nil IsPlayed));
 }
 
+-- what is played so far
+pub record IsPlayedScript (segments : ℕ) (script : Script) : Type 0 where
+  pub segments_are : script.segments ≡ min 1024 segments
+  pub nodes_are : script.nodes ≡ 1
+  pub units_are : script.units ≡ 4096
+  pub lines_are : All IsPlayed script.lines
+
 finished_plain : (segments : ℕ) (read : Result Draft BadLine) (script : Script) → ((draft : Draft) → read ≡ Ok draft → IsPlain draft) → finished segments read ≡ Ok script → IsPlayedScript segments script
 finished_plain segments (Err bad) script h e = absurd (cc)
 finished_plain segments (Ok draft) script h e =
@@ -195,6 +207,6 @@ script_plays mode segments bytes script e =
     finished_plain segments (drafted played (rules_of played mode segments) 1 blank (slice_split (λ b. nat_eq b 10) bytes)) script
     (λ draft f. (drafted_keeps IsPlayedMeaning IsPlain played (rules_of played mode segments) plain_kept
     (λ header late line meaning g. line_gives IsPlayedMeaning played (rules_of played mode segments) header late line meaning
-    (λ row m at k. judged_plays (rules_of played mode segments) header late (fields_of line) row m (row_plays (rules_of played mode segments) (fields_of line) row refl at) k) g)
+    (λ row m at k. judged_plays (rules_of played mode segments) header late (fields_of line) row m (record { few = omega arith; most = omega arith }) (row_plays (rules_of played mode segments) (fields_of line) row refl at) k) g)
     1 blank draft (slice_split (λ b. nat_eq b 10) bytes) (record { segments = refl; nodes = refl; units = refl; lines = All-nil IsPlayed })
     (omega (arith, length-slice_split (λ b. nat_eq b 10) bytes)) f).fit) e
