@@ -1,4 +1,4 @@
-use Rattle.std.specs.Prelude.{◌≡◌, ℕ, ◌+◌, ◌-◌, ◌*◌, ◌/◌, ◌≤◌, min}
+use Rattle.std.specs.Prelude.{◌≡◌, ℕ, ◌+◌, ◌-◌, ◌*◌, ◌/◌, ◌≤◌}
 
 -- the size of a pool of 1 to 8,192 segments
 pub record IsPoolSize (size : ℕ) : Type 0 where
@@ -7,6 +7,6 @@ pub record IsPoolSize (size : ℕ) : Type 0 where
   pub most : segments ≤ 8192
   pub whole : size ≡ 98304 + 1024 * segments
 
--- the segments in which a script plays, in a pool of this size: the pool's, up to 1,024
+-- the segments of a pool of this size
 abbrev pub segments_of : ℕ → ℕ
-segments_of size = min 1024 ((size - 98304) / 1024)
+segments_of size = (size - 98304) / 1024

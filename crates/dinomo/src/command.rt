@@ -1,8 +1,9 @@
 //! The words of the command line.
 
 ghost use Rattle.std.specs.Prelude.{◌≡◌, ◌≢◌, ◌↔◌, ◌⊎◌, ◌<◌, ◌≤◌, ℕ, List, Some, Ok, Err, length, IsTrue};
-ghost use Rattle.dn_script.specs.Script.{script_of, name_of, BadLine};
-ghost use Rattle.dn_script.specs.declared.scripts.Line.{Line};
+ghost use Rattle.dn_script.specs.Bad.{name_of};
+ghost use Rattle.dn_script.specs.Script.{line_count, BadLine};
+ghost use Rattle.dn_script.specs.declared.scripts.Script.{Script};
 ghost use Rattle.dn_act.specs.Words.{IsZeros};
 ghost use Rattle.std.specs.Io.KnownBytes.{IsAtEnd};
 ghost use Rattle.dn_io.specs.Rose.{Rose};
@@ -12,7 +13,7 @@ ghost use Rattle.dinomo.specs.Pool.{IsPoolSize, segments_of};
 ghost use Rattle.dinomo.specs.Command.{IsPlay, RefusesWords};
 ghost use Rattle.dinomo.specs.Headline.{WritesRun, WritesPart, IsStop};
 ghost use Rattle.dn_world.specs.Stopped.{IsStopped};
-ghost use Rattle.dinomo.specs.Verdict.{Meets, verdict_of, IsPlayed, LeavesPool, LeavesSink, Writes};
+ghost use Rattle.dinomo.specs.Verdict.{scripted, Meets, verdict_of, IsPlayed, LeavesPool, LeavesSink, Writes};
 
 use crate::playing::{play, write_out};
 use dn_act::Memory;
@@ -40,14 +41,14 @@ pub fn run<S: Source, K: Sink, M: Memory>(
     requires zeros { IsZeros (M.words pool.old) }
     ensures words { result ≡ Status.BadWords → IsPlay words.now → ⊥ }
     ensures other { (IsPlay words.now → ⊥) → RefusesWords result }
-    ensures script { IsPlay words.now → (left : List ℕ) → S.left source.old ≡ Some left → Meets result (verdict_of left) }
-    ensures headline { IsPlay words.now → result ≡ Status.Ok → (left : List ℕ) (lines : List Line) → S.left source.old ≡ Some left → script_of left ≡ Ok lines → WritesRun (segments_of (length (M.words pool.old))) lines (M.words pool.new) (K.written sink.old) (K.written sink.new) }
-    ensures headline_part { IsPlay words.now → result ≡ Status.WriteFault → (left : List ℕ) (lines : List Line) → S.left source.old ≡ Some left → script_of left ≡ Ok lines → WritesPart (segments_of (length (M.words pool.old))) lines (M.words pool.new) (K.written sink.old) (K.written sink.new) }
-    ensures stopped { IsPlay words.now → IsStop result → (left : List ℕ) (lines : List Line) → S.left source.old ≡ Some left → script_of left ≡ Ok lines → IsStopped (segments_of (length (M.words pool.old))) lines (M.words pool.new) }
-    ensures complete { IsPlay words.now → (left : List ℕ) (lines : List Line) → S.left source.old ≡ Some left → length left ≤ 67108864 → script_of left ≡ Ok lines → (Rose (S.faults source.old) (S.faults source.new) → ⊥) → (Rose (K.faults sink.old) (K.faults sink.new) → ⊥) → M.faults pool.new ≡ M.faults pool.old → (result ≡ Status.Ok) ⊎ (result ≡ Status.OutOfMemory) }
+    ensures script { IsPlay words.now → (left : List ℕ) → S.left source.old ≡ Some left → Meets result (verdict_of (segments_of (length (M.words pool.old))) left) }
+    ensures headline { IsPlay words.now → result ≡ Status.Ok → (left : List ℕ) (script : Script) → S.left source.old ≡ Some left → scripted (segments_of (length (M.words pool.old))) left ≡ Ok script → WritesRun script.segments script.lines (M.words pool.new) (K.written sink.old) (K.written sink.new) }
+    ensures headline_part { IsPlay words.now → result ≡ Status.WriteFault → (left : List ℕ) (script : Script) → S.left source.old ≡ Some left → scripted (segments_of (length (M.words pool.old))) left ≡ Ok script → WritesPart script.segments script.lines (M.words pool.new) (K.written sink.old) (K.written sink.new) }
+    ensures stopped { IsPlay words.now → IsStop result → (left : List ℕ) (script : Script) → S.left source.old ≡ Some left → scripted (segments_of (length (M.words pool.old))) left ≡ Ok script → IsStopped script.segments script.lines (M.words pool.new) }
+    ensures complete { IsPlay words.now → (left : List ℕ) (script : Script) → S.left source.old ≡ Some left → length left ≤ 67108864 → line_count left ≤ 1000000 → scripted (segments_of (length (M.words pool.old))) left ≡ Ok script → (Rose (S.faults source.old) (S.faults source.new) → ⊥) → (Rose (K.faults sink.old) (K.faults sink.new) → ⊥) → M.faults pool.new ≡ M.faults pool.old → (result ≡ Status.Ok) ⊎ (result ≡ Status.OutOfMemory) }
     ensures end { result ≡ Status.Ok → IsAtEnd (S.left source.new) }
-    ensures unplayed { IsPlay words.now → (left : List ℕ) → S.left source.old ≡ Some left → (IsPlayed (verdict_of left) → ⊥) → M.words pool.new ≡ M.words pool.old }
-    ensures bad_part { IsPlay words.now → result ≡ Status.WriteFault → (left : List ℕ) (bad : BadLine) → S.left source.old ≡ Some left → script_of left ≡ Err bad → WroteFront (K.written sink.old) (K.written sink.new) (bad_line_text bad.line (name_of bad.cause)) }
+    ensures unplayed { IsPlay words.now → (left : List ℕ) → S.left source.old ≡ Some left → (IsPlayed (verdict_of (segments_of (length (M.words pool.old))) left) → ⊥) → M.words pool.new ≡ M.words pool.old }
+    ensures bad_part { IsPlay words.now → result ≡ Status.WriteFault → (left : List ℕ) (bad : BadLine) → S.left source.old ≡ Some left → scripted (segments_of (length (M.words pool.old))) left ≡ Err bad → WroteFront (K.written sink.old) (K.written sink.new) (bad_line_text bad.line (name_of bad.cause)) }
     ensures refused_part { (IsPlay words.now → ⊥) → result ≡ Status.WriteFault → WroteFront (K.written sink.old) (K.written sink.new) bad_words_text }
     ensures index { result ≢ Status.IndexFull }
     ensures read_fault { result ≡ Status.ReadFault → Rose (S.faults source.old) (S.faults source.new) }
@@ -58,7 +59,7 @@ pub fn run<S: Source, K: Sink, M: Memory>(
     ensures pool_fault { result ≡ Status.PoolFault → M.faults pool.old < M.faults pool.new }
     ensures no_fault { result ≢ Status.PoolFault → M.faults pool.new ≡ M.faults pool.old }
     ensures refused { result ≡ Status.BadWords → Writes (K.written sink.old) (K.written sink.new) bad_words_text }
-    ensures bad_line { result ≡ Status.BadScript → (left : List ℕ) (bad : BadLine) → S.left source.old ≡ Some left → script_of left ≡ Err bad → Writes (K.written sink.old) (K.written sink.new) (bad_line_text bad.line (name_of bad.cause)) }
+    ensures bad_line { result ≡ Status.BadScript → (left : List ℕ) (bad : BadLine) → S.left source.old ≡ Some left → scripted (segments_of (length (M.words pool.old))) left ≡ Err bad → Writes (K.written sink.old) (K.written sink.new) (bad_line_text bad.line (name_of bad.cause)) }
     ensures unread { (IsPlay words.now → ⊥) → S.left source.new ≡ S.left source.old }
     ensures unasked { (IsPlay words.now → ⊥) → M.words pool.new ≡ M.words pool.old }
     ensures untouched { LeavesPool result → M.words pool.new ≡ M.words pool.old }

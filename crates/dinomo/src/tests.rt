@@ -93,7 +93,7 @@ fn scripts_end_by_their_status(rt: HostRuntime) -> Result<(), Fail> {
             0,
             0,
             Status::BadScript,
-            "line 3: verb\n",
+            "line 3: key\n",
         ),
         ("play", FIRST, 1, 0, Status::ReadFault, ""),
         ("play", FIRST, 0, 1, Status::WriteFault, ""),
@@ -134,7 +134,7 @@ fn a_value_has_at_most_1024_bytes(rt: HostRuntime) -> Result<(), Fail> {
     let more = puts(rt.alloc(), 1, 1025)?;
     let ended = run_word(rt.alloc(), "play", more.as_slice(), 1024, 0, 0)?;
     assert_eq!(rt; ended.status, Status::BadScript);
-    assert_eq!(rt; ended.sink.bytes(), b"line 1: verb\n".as_slice());
+    assert_eq!(rt; ended.sink.bytes(), b"line 1: value\n".as_slice());
     assert!(rt; has_word(&ended.pool, 0, 0));
     Ok(())
 }
