@@ -12,9 +12,4 @@ abbrev pub RefusesWords : Status → Type 0
 RefusesWords status.BadWords = Unit {0}
 RefusesWords status.WriteFault = Unit {0}
 RefusesWords status.OutOfMemory = Unit {0}
-RefusesWords status.Ok = ⊥
-RefusesWords status.ReadFault = ⊥
-RefusesWords status.BadScript = ⊥
-RefusesWords status.TooLong = ⊥
-RefusesWords status.PoolFault = ⊥
-RefusesWords status.IndexFull = ⊥
+RefusesWords other = ⊥

@@ -1,4 +1,5 @@
 pub mod Command
 pub mod Headline
+pub mod Plays
 pub mod Pool
 pub mod Verdict

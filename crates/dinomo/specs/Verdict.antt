@@ -79,11 +79,7 @@ LeavesPool status.ReadFault = Unit {0}
 LeavesPool status.TooLong = Unit {0}
 LeavesPool status.BadScript = Unit {0}
 LeavesPool status.BadWords = Unit {0}
-LeavesPool status.Ok = ⊥
-LeavesPool status.WriteFault = ⊥
-LeavesPool status.OutOfMemory = ⊥
-LeavesPool status.PoolFault = ⊥
-LeavesPool status.IndexFull = ⊥
+LeavesPool other = ⊥
 
 -- there is no output
 abbrev pub LeavesSink : Status → Type 0
@@ -91,8 +87,4 @@ LeavesSink status.ReadFault = Unit {0}
 LeavesSink status.TooLong = Unit {0}
 LeavesSink status.PoolFault = Unit {0}
 LeavesSink status.OutOfMemory = Unit {0}
-LeavesSink status.Ok = ⊥
-LeavesSink status.BadWords = ⊥
-LeavesSink status.BadScript = ⊥
-LeavesSink status.WriteFault = ⊥
-LeavesSink status.IndexFull = ⊥
+LeavesSink other = ⊥

@@ -3,37 +3,23 @@
 
 mod command;
 mod playing;
+mod setting;
 #[cfg(test)]
 mod tests;
 
 use crate::command::run;
-use dn_act::Sound;
+use crate::setting::{whole_pool, words_behind_name};
 use dn_io::{Status, StdIn, StdOut};
-use dn_word::regions::POOL_SEGMENTS;
 use std::env;
 use std::process::ExitCode;
 
-/// The words of the command line, without the program's name. Where one is no text there are none, which is no command.
-fn words(rt: &HostRuntime) -> Result<Vec<String>, Status> {
-    let mut words = Vec::new(rt.alloc());
-    let Ok(args) = env::args(rt) else {
-        return Ok(words);
-    };
-    for word in args.skip(1) {
-        if words.push(word).is_err() {
-            return Err(Status::OutOfMemory);
-        }
-    }
-    Ok(words)
-}
-
-/// Runs over the standard streams and a pool of its own, which has as many segments as a pool may have.
+/// Runs over the standard streams and a pool of its own. Words of the command line that are no text are no command.
 fn run_here(rt: &HostRuntime) -> Status {
-    let words = match words(rt) {
-        Ok(words) => words,
-        Err(status) => return status,
+    let words = match env::args(rt) {
+        Ok(args) => words_behind_name(rt.alloc(), args),
+        Err(_) => Ok(Vec::new(rt.alloc())),
     };
-    let Ok(mut pool) = Sound::new(rt.alloc(), POOL_SEGMENTS) else {
+    let (Ok(words), Ok(mut pool)) = (words, whole_pool(rt.alloc())) else {
         return Status::OutOfMemory;
     };
     let mut source = StdIn::new(rt.stdin());

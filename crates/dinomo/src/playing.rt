@@ -1,7 +1,7 @@
 //! A play: a script is read, played over a pool, and its output written.
 
 ghost use Rattle.std.specs.Prelude.{◌≡◌, ◌≢◌, ◌⊎◌, ◌<◌, ◌≤◌, ◌+◌, ◌*◌, ◌^◌, ◌++◌, ℕ, List, [], Some, None, Ok, Err, All, length, min, IfOk, IfErr, OnOk, OnErr, IsErrOf};
-ghost use Rattle.dn_act.specs.Words.{IsZeros};
+ghost use Rattle.dn_act.specs.Words.{IsZeros, pool_size};
 ghost use Rattle.std.specs.Io.KnownBytes.{IsAtEnd};
 ghost use Rattle.dn_io.specs.Rose.{Rose};
 ghost use Rattle.dn_io.specs.Whole.{WroteFront};
@@ -10,12 +10,13 @@ ghost use Rattle.dn_script.specs.Bad.{name_of};
 ghost use Rattle.dn_script.specs.Script.{line_count, BadLine};
 ghost use Rattle.dn_script.specs.declared.scripts.Script.{Script as ScriptOf};
 ghost use Rattle.dn_print.specs.RefusalLine.{bad_line_text};
-ghost use Rattle.dinomo.specs.Pool.{IsPoolSize, segments_of};
+ghost use Rattle.dinomo.specs.Pool.{IsPoolSize, pool_segments, segments_of};
 ghost use Rattle.dn_world.specs.Playing.{CallsLine};
 ghost use Rattle.dn_world.specs.Run.{IsRun};
-ghost use Rattle.dn_world.specs.Stopped.{StopsLine, IsStopped};
+ghost use Rattle.dn_world.specs.Stopped.{StopsLine, IsStopped, CountsStop};
+ghost use Rattle.dinomo.specs.Plays.{Plays};
 ghost use Rattle.dinomo.specs.Verdict.{scripted, verdict_of, Meets, IsInputFault, IsPlayed, Writes, LeavesPool, LeavesSink};
-ghost use Rattle.dinomo.specs.Headline.{WritesRun, WritesPart, EndsPlay, IsStop};
+ghost use Rattle.dinomo.specs.Headline.{WritesRun, WritesPart, LeavesRun, LeavesStopped, EndsPlay, IsStop};
 
 use dn_act::Memory;
 use dn_io::{ReadAllFault, Sink, Source, Status, read_all, write_all};
@@ -44,15 +45,20 @@ fn read_script<S: Source>(
     segments: u32,
 ) -> Result<Script, InputFault>
     ensures segments { IfOk result (λ script. script.segments ≡ min 1024 segments) }
-    ensures ok { IfOk result (λ script. (left : List ℕ) → S.left source.old ≡ Some left → IsPlayed (verdict_of segments left)) }
-    ensures script { IfOk result (λ script. (left : List ℕ) → S.left source.old ≡ Some left → scripted segments left ≡ Ok script) }
+    ensures ok { IfOk result (λ script. (left : List ℕ) → S.left source.old ≡ Some left
+        → IsPlayed (verdict_of segments left)) }
+    ensures script { IfOk result (λ script. (left : List ℕ) → S.left source.old ≡ Some left
+        → scripted segments left ≡ Ok script) }
     ensures fit { IfOk result (λ script. All IsPlayedLine script.lines) }
     ensures few { IfOk result (λ script. length script.lines ≤ 67108864) }
-    ensures fault { IfErr result (λ fault. (left : List ℕ) → S.left source.old ≡ Some left → IsInputFault fault (verdict_of segments left)) }
+    ensures fault { IfErr result (λ fault. (left : List ℕ) → S.left source.old ≡ Some left
+        → IsInputFault fault (verdict_of segments left)) }
     ensures end { OnOk result (IsAtEnd (S.left source.new)) }
-    ensures cause { IsErrOf result InputFault.Read → Rose (S.faults source.old) (S.faults source.new) }
+    ensures cause { IsErrOf result InputFault.Read
+        → Rose (S.faults source.old) (S.faults source.new) }
     ensures no_fault { OnOk result (S.faults source.new ≡ S.faults source.old) }
-    ensures else_no_fault { IfErr result (λ fault. fault ≢ InputFault.Read → S.faults source.new ≡ S.faults source.old) }
+    ensures else_no_fault { IfErr result (λ fault. fault ≢ InputFault.Read
+        → S.faults source.new ≡ S.faults source.old) }
 {
     let bytes = match read_all(alloc, source, MAX_BYTES) {
         Ok(bytes) => bytes,
@@ -75,18 +81,17 @@ fn call_line<M: Memory>(
     out: &mut Vec<u8>,
     line: &Line,
 ) -> Result<(), Stop>
-    requires size { 98304 + 1024 * world.old.lane.log.pool ≤ length (M.words pool.old) }
+    requires size { pool_size world.old.lane.log.pool ≤ length (M.words pool.old) }
     requires idle { world.old.lane.work ≡ None }
     requires played { IsPlayedLine line.now }
-    ensures stopped { OnErr result (StopsLine (M.words pool.old) world.old line.now (M.words pool.new)) }
-    ensures calls { OnOk result (CallsLine (M.words pool.old) world.old line.now out.old.items (M.words pool.new) world.new out.new.items) }
+    ensures stopped { OnErr result (StopsLine (M.words pool.old) world.old line.now
+        (M.words pool.new)) }
+    ensures calls { OnOk result (CallsLine (M.words pool.old) world.old line.now out.old.items
+        (M.words pool.new) world.new out.new.items) }
     ensures idle { OnOk result (world.new.lane.work ≡ None) }
     ensures pool { world.new.lane.log.pool ≡ world.old.lane.log.pool }
     ensures size { length (M.words pool.new) ≡ length (M.words pool.old) }
-    ensures no_fault { OnOk result (M.faults pool.new ≡ M.faults pool.old) }
-    ensures want { IsErrOf result Stop.OutOfMemory → M.faults pool.new ≡ M.faults pool.old }
-    ensures cause { IsErrOf result Stop.Fault → M.faults pool.old < M.faults pool.new }
-    ensures faults { M.faults pool.old ≤ M.faults pool.new }
+    ensures count { CountsStop result (M.faults pool.old) (M.faults pool.new) }
 {
     match line {
         Line::Call { session, call, .. } => world.call(pool, out, *session, call),
@@ -103,18 +108,17 @@ fn perform<M: Memory>(
     out: &mut Vec<u8>,
 ) -> Result<(), Stop>
     requires segments { script.now.segments ≤ 8192 }
-    requires size { 98304 + 1024 * script.now.segments ≤ length (M.words pool.old) }
+    requires size { pool_size script.now.segments ≤ length (M.words pool.old) }
     requires zeros { IsZeros (M.words pool.old) }
     requires fit { All IsPlayedLine script.now.lines }
     requires few { length script.now.lines ≤ 67108864 }
     requires empty { out.old.items ≡ [] }
-    ensures run { OnOk result (IsRun script.now.segments script.now.lines (M.words pool.new) out.new.items) }
-    ensures stopped { OnErr result (IsStopped script.now.segments script.now.lines (M.words pool.new)) }
+    ensures run { OnOk result (IsRun script.now.segments script.now.lines (M.words pool.new)
+        out.new.items) }
+    ensures stopped { OnErr result (IsStopped script.now.segments script.now.lines
+        (M.words pool.new)) }
     ensures size { length (M.words pool.new) ≡ length (M.words pool.old) }
-    ensures no_fault { OnOk result (M.faults pool.new ≡ M.faults pool.old) }
-    ensures want { IsErrOf result Stop.OutOfMemory → M.faults pool.new ≡ M.faults pool.old }
-    ensures cause { IsErrOf result Stop.Fault → M.faults pool.old < M.faults pool.new }
-    ensures faults { M.faults pool.old ≤ M.faults pool.new }
+    ensures count { CountsStop result (M.faults pool.old) (M.faults pool.new) }
 {
     let lines = script.lines.as_slice();
     let mut world = World::open(alloc, pool, script.segments, lines.len())?;
@@ -127,9 +131,12 @@ fn perform<M: Memory>(
 /// Writes the output of a play that ended so. Where that fails, the write fault takes the place of the status.
 pub fn write_out<K: Sink>(sink: &mut K, out: &[u8], status: Status) -> Status
     ensures ends { (result ≡ status) ⊎ (result ≡ Status.WriteFault) }
-    ensures cause { result ≡ Status.WriteFault → status ≢ Status.WriteFault → Rose (K.faults sink.old) (K.faults sink.new) }
-    ensures whole { result ≢ Status.WriteFault → Writes (K.written sink.old) (K.written sink.new) out.now }
-    ensures part { result ≡ Status.WriteFault → status ≢ Status.WriteFault → WroteFront (K.written sink.old) (K.written sink.new) out.now }
+    ensures cause { result ≡ Status.WriteFault → status ≢ Status.WriteFault
+        → Rose (K.faults sink.old) (K.faults sink.new) }
+    ensures whole { result ≢ Status.WriteFault
+        → Writes (K.written sink.old) (K.written sink.new) out.now }
+    ensures part { result ≡ Status.WriteFault → status ≢ Status.WriteFault
+        → WroteFront (K.written sink.old) (K.written sink.new) out.now }
     ensures no_write_fault { result ≢ Status.WriteFault → K.faults sink.new ≡ K.faults sink.old }
 {
     match write_all(sink, out) {
@@ -146,15 +153,20 @@ fn play_script<K: Sink, M: Memory>(
     script: &Script,
 ) -> Status
     requires segments { script.now.segments ≤ 8192 }
-    requires size { 98304 + 1024 * script.now.segments ≤ length (M.words pool.old) }
+    requires size { pool_size script.now.segments ≤ length (M.words pool.old) }
     requires zeros { IsZeros (M.words pool.old) }
     requires fit { All IsPlayedLine script.now.lines }
     requires few { length script.now.lines ≤ 67108864 }
     ensures ends { EndsPlay result }
-    ensures ok { result ≡ Status.Ok → WritesRun script.now.segments script.now.lines (M.words pool.new) (K.written sink.old) (K.written sink.new) }
-    ensures part { result ≡ Status.WriteFault → WritesPart script.now.segments script.now.lines (M.words pool.new) (K.written sink.old) (K.written sink.new) }
-    ensures stopped { IsStop result → IsStopped script.now.segments script.now.lines (M.words pool.new) }
-    ensures write_fault { result ≡ Status.WriteFault → Rose (K.faults sink.old) (K.faults sink.new) }
+    ensures ok { result ≡ Status.Ok → WritesRun script.now.segments script.now.lines
+        (M.words pool.new) (K.written sink.old) (K.written sink.new) }
+    ensures part { result ≡ Status.WriteFault
+        → WritesPart script.now.segments script.now.lines (M.words pool.new) (K.written sink.old)
+        (K.written sink.new) }
+    ensures stopped { IsStop result → IsStopped script.now.segments script.now.lines
+        (M.words pool.new) }
+    ensures write_fault { result ≡ Status.WriteFault
+        → Rose (K.faults sink.old) (K.faults sink.new) }
     ensures no_write_fault { result ≢ Status.WriteFault → K.faults sink.new ≡ K.faults sink.old }
     ensures size { length (M.words pool.new) ≡ length (M.words pool.old) }
     ensures pool_fault { result ≡ Status.PoolFault → M.faults pool.old < M.faults pool.new }
@@ -172,7 +184,7 @@ fn play_script<K: Sink, M: Memory>(
 /// Plays the script of the source over the pool, and writes the output to the sink after all of it was made.
 ///
 /// A source, sink or access of the pool that fails ends the play with its status. What the output is where the status is
-/// Ok is the definition `IsRun`, and in words docs/ScriptOf.md.
+/// Ok is the definition `IsRun`, and in words docs/SCRIPT.md. All that it promises is `Plays`, fact by fact.
 pub fn play<S: Source, K: Sink, M: Memory>(
     alloc: Global,
     source: &mut S,
@@ -181,33 +193,91 @@ pub fn play<S: Source, K: Sink, M: Memory>(
 ) -> Status
     requires size { IsPoolSize (length (M.words pool.old)) }
     requires zeros { IsZeros (M.words pool.old) }
-    // Whole: the output of a run of the script's lines was written, and the pool is what the run left. With a write fault a
-    // front of that output was written. Where nothing fails, the script is played, or memory was wanting.
-    ensures headline { result ≡ Status.Ok → (left : List ℕ) (script : ScriptOf) → S.left source.old ≡ Some left → scripted (segments_of (length (M.words pool.old))) left ≡ Ok script → WritesRun script.segments script.lines (M.words pool.new) (K.written sink.old) (K.written sink.new) }
-    ensures headline_part { result ≡ Status.WriteFault → (left : List ℕ) (script : ScriptOf) → S.left source.old ≡ Some left → scripted (segments_of (length (M.words pool.old))) left ≡ Ok script → WritesPart script.segments script.lines (M.words pool.new) (K.written sink.old) (K.written sink.new) }
-    // Where an access of the pool failed, or memory was wanting, the pool holds the map that the calls of some first lines leave,
-    // each of them once and with the replies of a plain map.
-    ensures stopped { IsStop result → (left : List ℕ) (script : ScriptOf) → S.left source.old ≡ Some left → scripted (segments_of (length (M.words pool.old))) left ≡ Ok script → IsStopped script.segments script.lines (M.words pool.new) }
-    ensures complete { (left : List ℕ) (script : ScriptOf) → S.left source.old ≡ Some left → length left ≤ 67108864 → line_count left ≤ 1000000 → scripted (segments_of (length (M.words pool.old))) left ≡ Ok script → (Rose (S.faults source.old) (S.faults source.new) → ⊥) → (Rose (K.faults sink.old) (K.faults sink.new) → ⊥) → M.faults pool.new ≡ M.faults pool.old → (result ≡ Status.Ok) ⊎ (result ≡ Status.OutOfMemory) }
+    ensures plays { Plays
+        (record {
+          left = S.left source.old;
+          reads = S.faults source.old;
+          written = K.written sink.old;
+          writes = K.faults sink.old;
+          words = M.words pool.old;
+          accesses = M.faults pool.old;
+        })
+        (record {
+          left = S.left source.new;
+          reads = S.faults source.new;
+          written = K.written sink.new;
+          writes = K.faults sink.new;
+          words = M.words pool.new;
+          accesses = M.faults pool.new;
+        })
+        result }
+{
+    play_source(alloc, source, sink, pool)
+}
+
+/// The play of the source's script: each fact of `Plays` by itself.
+fn play_source<S: Source, K: Sink, M: Memory>(
+    alloc: Global,
+    source: &mut S,
+    sink: &mut K,
+    pool: &mut M,
+) -> Status
+    requires size { IsPoolSize (length (M.words pool.old)) }
+    requires zeros { IsZeros (M.words pool.old) }
+    ensures headline { result ≡ Status.Ok → (left : List ℕ) (script : ScriptOf)
+        → S.left source.old ≡ Some left → scripted (pool_segments (length (M.words pool.old))) left
+        ≡ Ok script
+        → WritesRun script.segments script.lines (M.words pool.new)
+        (K.written sink.old) (K.written sink.new) }
+    ensures headline_part { result ≡ Status.WriteFault → (left : List ℕ) (script : ScriptOf)
+        → S.left source.old ≡ Some left → scripted (pool_segments (length (M.words pool.old))) left
+        ≡ Ok script
+        → WritesPart script.segments script.lines (M.words pool.new)
+        (K.written sink.old) (K.written sink.new) }
+    ensures stopped { IsStop result → (left : List ℕ) (script : ScriptOf)
+        → S.left source.old ≡ Some left → scripted (pool_segments (length (M.words pool.old))) left
+        ≡ Ok script
+        → IsStopped script.segments script.lines (M.words pool.new) }
+    ensures complete { (left : List ℕ) (script : ScriptOf) → S.left source.old ≡ Some left
+        → length left ≤ 67108864 → line_count left ≤ 1000000
+        → scripted (pool_segments (length (M.words pool.old))) left ≡ Ok script
+        → (Rose (S.faults source.old) (S.faults source.new) → ⊥)
+        → (Rose (K.faults sink.old) (K.faults sink.new) → ⊥)
+        → M.faults pool.new ≡ M.faults pool.old → (result ≡ Status.Ok)
+        ⊎ (result ≡ Status.OutOfMemory) }
     ensures end { result ≡ Status.Ok → IsAtEnd (S.left source.new) }
-    ensures bad_part { result ≡ Status.WriteFault → (left : List ℕ) (bad : BadLine) → S.left source.old ≡ Some left → scripted (segments_of (length (M.words pool.old))) left ≡ Err bad → WroteFront (K.written sink.old) (K.written sink.new) (bad_line_text bad.line (name_of bad.cause)) }
-    // For a source that tells its bytes, the status is the one that they deserve, or one with a cause of its own.
-    ensures script { (left : List ℕ) → S.left source.old ≡ Some left → Meets result (verdict_of (segments_of (length (M.words pool.old))) left) }
+    ensures bad_part { result ≡ Status.WriteFault → (left : List ℕ) (bad : BadLine)
+        → S.left source.old ≡ Some left → scripted (pool_segments (length (M.words pool.old))) left
+        ≡ Err bad
+        → WroteFront (K.written sink.old) (K.written sink.new)
+        (bad_line_text bad.line (name_of bad.cause)) }
+    ensures script { (left : List ℕ) → S.left source.old ≡ Some left
+        → Meets result (verdict_of (pool_segments (length (M.words pool.old))) left) }
     ensures words { result ≢ Status.BadWords }
     ensures index { result ≢ Status.IndexFull }
-    ensures read_fault { result ≡ Status.ReadFault → Rose (S.faults source.old) (S.faults source.new) }
+    ensures read_fault { result ≡ Status.ReadFault
+        → Rose (S.faults source.old) (S.faults source.new) }
     ensures no_read_fault { result ≢ Status.ReadFault → S.faults source.new ≡ S.faults source.old }
-    ensures write_fault { result ≡ Status.WriteFault → Rose (K.faults sink.old) (K.faults sink.new) }
+    ensures write_fault { result ≡ Status.WriteFault
+        → Rose (K.faults sink.old) (K.faults sink.new) }
     ensures no_write_fault { result ≢ Status.WriteFault → K.faults sink.new ≡ K.faults sink.old }
     ensures size { length (M.words pool.new) ≡ length (M.words pool.old) }
     ensures pool_fault { result ≡ Status.PoolFault → M.faults pool.old < M.faults pool.new }
     ensures no_fault { result ≢ Status.PoolFault → M.faults pool.new ≡ M.faults pool.old }
-    // A script that isn't played leaves the pool, whatever the status, and so does a status that no play has, whatever the source
-    // tells; where there is no output, nothing is written.
-    ensures unplayed { (left : List ℕ) → S.left source.old ≡ Some left → (IsPlayed (verdict_of (segments_of (length (M.words pool.old))) left) → ⊥) → M.words pool.new ≡ M.words pool.old }
+    ensures unplayed { (left : List ℕ) → S.left source.old ≡ Some left
+        → (IsPlayed (verdict_of (pool_segments (length (M.words pool.old))) left) → ⊥)
+        → M.words pool.new ≡ M.words pool.old }
     ensures untouched { LeavesPool result → M.words pool.new ≡ M.words pool.old }
     ensures unwritten { LeavesSink result → K.written sink.new ≡ K.written sink.old }
-    ensures bad_line { result ≡ Status.BadScript → (left : List ℕ) (bad : BadLine) → S.left source.old ≡ Some left → scripted (segments_of (length (M.words pool.old))) left ≡ Err bad → Writes (K.written sink.old) (K.written sink.new) (bad_line_text bad.line (name_of bad.cause)) }
+    ensures bad_line { result ≡ Status.BadScript → (left : List ℕ) (bad : BadLine)
+        → S.left source.old ≡ Some left → scripted (pool_segments (length (M.words pool.old))) left
+        ≡ Err bad
+        → Writes (K.written sink.old) (K.written sink.new)
+        (bad_line_text bad.line (name_of bad.cause)) }
+    ensures leaves_run { result ≡ Status.Ok → LeavesRun (segments_of (length (M.words pool.old)))
+        (M.words pool.new) }
+    ensures leaves_stopped { IsStop result → LeavesStopped
+        (segments_of (length (M.words pool.old))) (M.words pool.new) }
 {
     let segments = (pool.size() - SEGMENTS_AT) / SEGMENT_WORDS;
     let script = match read_script(alloc, source, segments) {
@@ -222,15 +292,18 @@ pub fn play<S: Source, K: Sink, M: Memory>(
 
 /// Writes the line that names the first bad line of a script.
 fn refuse<K: Sink>(alloc: Global, sink: &mut K, line: u64, cause: Cause) -> Status
-    ensures ends { (result ≡ Status.BadScript) ⊎ (result ≡ Status.WriteFault) ⊎ (result ≡ Status.OutOfMemory) }
+    ensures ends { (result ≡ Status.BadScript) ⊎ (result ≡ Status.WriteFault)
+        ⊎ (result ≡ Status.OutOfMemory) }
     ensures cause { result ≡ Status.WriteFault → Rose (K.faults sink.old) (K.faults sink.new) }
     ensures no_write_fault { result ≢ Status.WriteFault → K.faults sink.new ≡ K.faults sink.old }
     ensures want { result ≡ Status.OutOfMemory → K.written sink.new ≡ K.written sink.old }
-    ensures part { result ≡ Status.WriteFault → WroteFront (K.written sink.old) (K.written sink.new) (bad_line_text line (name_of cause)) }
-    ensures line { result ≡ Status.BadScript → Writes (K.written sink.old) (K.written sink.new) (bad_line_text line (name_of cause)) }
+    ensures part { result ≡ Status.WriteFault
+        → WroteFront (K.written sink.old) (K.written sink.new) (bad_line_text line (name_of cause)) }
+    ensures line { result ≡ Status.BadScript
+        → Writes (K.written sink.old) (K.written sink.new) (bad_line_text line (name_of cause)) }
 {
     let mut out = Vec::new(alloc);
-    match bad_line(alloc, &mut out, line, cause.name()) {
+    match bad_line(&mut out, line, cause.name()) {
         Ok(()) => write_out(sink, out.as_slice(), Status::BadScript),
         Err(_) => Status::OutOfMemory,
     }

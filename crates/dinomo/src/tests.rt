@@ -184,6 +184,39 @@ map 1792
     Ok(())
 }
 
+#[test]
+fn gets_give_back_what_was_put(rt: HostRuntime) -> Result<(), Fail> {
+    let mut script = puts(rt.alloc(), 8, 1024)?;
+    script.extend_from_slice(b"c1 get 1\nc1 get 8\nc1 put 5 =a\nc1 put 5 =bc\nc1 get 5\n")?;
+    let ended = run_word(rt.alloc(), "play", script.as_slice(), 1024, 0, 0)?;
+    assert_eq!(rt; ended.status, Status::Ok);
+    let long = vec![in rt.alloc(); b'A'; 1024]?;
+    let mut text = Vec::from_slice(rt.alloc(), b"c1 9 =")?;
+    text.extend_from_slice(long.as_slice())?;
+    text.extend_from_slice(b" 8.1.1\nc1 10 =")?;
+    text.extend_from_slice(long.as_slice())?;
+    text.extend_from_slice(
+        b" 8.2.1\nc1 11 stored 9.0.1\nc1 12 stored 10.0.1\nc1 13 =bc 10.1.1\nhistory 13\n",
+    )?;
+    assert!(rt;
+        ended
+            .sink
+            .bytes()
+            .windows(text.len())
+            .any(|part| part == text.as_slice())
+    );
+    let map = map_of(rt.alloc(), &ended.pool)?;
+    assert_eq!(rt;
+        map.get(8).map(|value| value.as_bytes()),
+        Some(long.as_slice())
+    );
+    assert_eq!(rt;
+        map.get(5).map(|value| value.as_bytes()),
+        Some(b"bc".as_slice())
+    );
+    Ok(())
+}
+
 /// The map that a pool holds.
 fn map_of(alloc: Global, pool: &Sound) -> Result<PlainMap, Fail> {
     let mut words = Vec::new(alloc);

@@ -20,6 +20,10 @@ pub record Calls : Type 0 where
   pub ahead : List (ℕ × Bool)
   pub met : ℕ
 
+-- before the first call
+abbrev pub uncalled : List ℕ → List (ℕ × Bool) → Calls
+uncalled words failing = record { words = words; made = 0; ahead = failing; met = 0 }
+
 -- the number of the next call; the count of calls stands still at its end
 abbrev pub number_of : Calls → ℕ
 number_of pool = min (pool.made + 1) (2 ^ 64 - 1)
@@ -55,15 +59,18 @@ answer_by (Some done) word = Err (record {})
 abbrev pub next_fails : Calls → Option Bool
 next_fails pool = fails (number_of pool) pool.ahead
 
+-- the next call is counted, and its words aren't changed yet
+abbrev pub counted : Calls → Calls
+counted pool = record pool {
+  made = number_of pool;
+  ahead = ahead_by (next_fails pool) pool.ahead;
+  met = met_by (next_fails pool) pool.met;
+}
+
 -- the answer of the next call
 abbrev pub answer_of : Calls → Action → Result ℕ Failed
 answer_of pool action = answer_by (next_fails pool) (word_at pool.words (at_of action))
 
 -- the pool after the next call
 abbrev pub calls_after : Calls → Action → Calls
-calls_after pool action = record {
-  words = words_by (next_fails pool) action pool.words;
-  made = number_of pool;
-  ahead = ahead_by (next_fails pool) pool.ahead;
-  met = met_by (next_fails pool) pool.met;
-}
+calls_after pool action = record (counted pool) { words = words_by (next_fails pool) action pool.words }

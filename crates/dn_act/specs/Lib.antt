@@ -1,3 +1,4 @@
 pub mod Words
+pub mod Access
 pub mod Action
 pub mod Calls

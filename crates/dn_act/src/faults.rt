@@ -1,3 +1,4 @@
+use std::alloc::AllocError;
 use thiserror::Error;
 
 /// An access of the pool failed: its action was done or not done, and nobody says which.
@@ -9,3 +10,9 @@ pub struct Failed;
 #[derive(Clone, Copy, Debug, PartialEq, Eq, Error)]
 #[error("out of memory")]
 pub struct OutOfMemory;
+
+impl From<AllocError> for OutOfMemory {
+    fn from(_: AllocError) -> OutOfMemory {
+        OutOfMemory
+    }
+}

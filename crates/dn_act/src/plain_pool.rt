@@ -1,7 +1,7 @@
 ghost use Rattle.std.specs.Prelude.{◌≡◌, ◌<◌, ◌≤◌, ◌+◌, ◌*◌, ◌^◌, [], IfOk, length};
-ghost use Rattle.dn_act.specs.Words.{word_at, IsZeros};
+ghost use Rattle.dn_act.specs.Words.{word_at, IsZeros, pool_size};
 ghost use Rattle.dn_act.specs.Action.{at_of};
-ghost use Rattle.dn_act.specs.Calls.{Ascend, next_fails, ahead_by, met_by, number_of, answer_of, calls_after};
+ghost use Rattle.dn_act.specs.Calls.{Ascend, uncalled, next_fails, counted, answer_of, calls_after};
 
 use crate::actions::Action;
 use crate::faults::{Failed, OutOfMemory};
@@ -27,7 +27,12 @@ impl Model for Plain {
 
     ghost Value = { Calls };
 
-    ghost view = { λ pool. record { words = pool.words; made = pool.made; ahead = drop pool.met pool.failing.items; met = pool.met } };
+    ghost view = { λ pool. record {
+      words = pool.words;
+      made = pool.made;
+      ahead = drop pool.met pool.failing.items;
+      met = pool.met;
+    } };
 
     ghost invariant = { λ pool. pool.met ≤ vec_len pool.failing };
 }
@@ -40,11 +45,11 @@ impl Plain {
         segments: u32,
         failing: Vec<(u64, bool)>,
     ) -> Result<Plain, OutOfMemory>
-        requires segments { 98304 + 1024 * segments < 2 ^ 32 }
+        requires segments { pool_size segments < 2 ^ 32 }
         requires ascend { Ascend failing.items }
-        ensures size { IfOk result (λ pool. length pool.words ≡ 98304 + 1024 * segments) }
+        ensures size { IfOk result (λ pool. length pool.words ≡ pool_size segments) }
         ensures zeros { IfOk result (λ pool. IsZeros pool.words) }
-        ensures calls { IfOk result (λ pool. pool ≡ record { words = pool.words; made = 0; ahead = failing.items; met = 0 }) }
+        ensures calls { IfOk result (λ pool. pool ≡ uncalled pool.words failing.items) }
     {
         let words = Sound::new(alloc, segments)?;
         Ok(Plain {
@@ -66,7 +71,7 @@ impl Plain {
     /// Counts a call, and says whether it fails, and then whether its action is done.
     fn count(&mut self) -> Option<bool>
         ensures fails { result ≡ next_fails self.old }
-        ensures pool { self.new ≡ record { words = self.old.words; made = number_of self.old; ahead = ahead_by (next_fails self.old) self.old.ahead; met = met_by (next_fails self.old) self.old.met } }
+        ensures pool { self.new ≡ counted self.old }
     {
         self.made = self.made.saturating_add(1);
         if self.met < self.failing.len() {

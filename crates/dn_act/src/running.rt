@@ -1,4 +1,5 @@
-ghost use Rattle.std.specs.Prelude.{◌≡◌, ◌<◌, ◌≤◌, length, IfOk, OnOk, OnErr};
+ghost use Rattle.std.specs.Prelude.{◌<◌, length, IfOk, OnErr};
+ghost use Rattle.dn_act.specs.Access.{CountsFault};
 ghost use Rattle.dn_act.specs.Action.{at_of, Performs, MayPerform};
 
 use crate::actions::Action;
@@ -9,11 +10,10 @@ use crate::memories::Memory;
 /// A `Failed` access raised the memory's count of faults, and whether its action took place is not known.
 pub fn exec<M: Memory>(mem: &mut M, action: &Action) -> Result<u64, Failed>
     requires { at_of action.now < length (M.words mem.old) }
-    ensures ok { IfOk result (λ word. Performs action.now word (M.words mem.old) (M.words mem.new)) }
+    ensures ok { IfOk result (λ word.
+        Performs action.now word (M.words mem.old) (M.words mem.new)) }
     ensures failed { OnErr result (MayPerform action.now (M.words mem.old) (M.words mem.new)) }
-    ensures no_fault { OnOk result (M.faults mem.new ≡ M.faults mem.old) }
-    ensures cause { OnErr result (M.faults mem.old < M.faults mem.new) }
-    ensures faults { M.faults mem.old ≤ M.faults mem.new }
+    ensures count { CountsFault result (M.faults mem.old) (M.faults mem.new) }
 {
     match *action {
         Action::Load { at } => mem.load(at),

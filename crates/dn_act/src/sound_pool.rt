@@ -1,5 +1,5 @@
 ghost use Rattle.std.specs.Prelude.{◌≡◌, ◌<◌, ◌≤◌, ◌+◌, ◌*◌, ◌^◌, IfOk, length};
-ghost use Rattle.dn_act.specs.Words.{word_at, IsZeros};
+ghost use Rattle.dn_act.specs.Words.{word_at, IsZeros, pool_size};
 
 use crate::faults::{Failed, OutOfMemory};
 use crate::memories::Memory;
@@ -25,12 +25,12 @@ impl Model for Sound {
 impl Sound {
     /// A pool of 98,304 words and so many segments of 1,024 words, all 0. Answers want of memory, or the pool.
     pub fn new(alloc: Global, segments: u32) -> Result<Sound, OutOfMemory>
-        requires { 98304 + 1024 * segments < 2 ^ 32 }
-        ensures size { IfOk result (λ pool. length pool ≡ 98304 + 1024 * segments) }
+        requires { pool_size segments < 2 ^ 32 }
+        ensures size { IfOk result (λ pool. length pool ≡ pool_size segments) }
         ensures zeros { IfOk result (λ pool. IsZeros pool) }
     {
         let size = 98304 + 1024 * segments as usize;
-        let words = vec![in alloc; 0u64; size].map_err(|_| OutOfMemory)?;
+        let words = vec![in alloc; 0u64; size]?;
         Ok(Sound { words })
     }
 

@@ -1,4 +1,5 @@
 use Rattle.std.specs.Prelude.{◌≡◌, ◌≢◌, ◌⊎◌, ◌≤◌, ◌<◌, ℕ, ◌+◌, ◌-◌, ◌^◌, true, false, List, [], length, Contains, Option, Some, None}
+use Rattle.dn_word.specs.Regions.{segment_counter_at}
 use Rattle.dn_word.specs.declared.positions.Position.{Position}
 use Rattle.dn_act.specs.Words.{word_at}
 use Rattle.dn_hist.specs.declared.calls.Call.{Call}
@@ -48,7 +49,7 @@ pub record AreFlowing (words : List ℕ) (staged all : List Staged) : Type 0 whe
 -- the add of a claim finds a counter below the pool's number of segments
 abbrev pub HasSegment : List ℕ → Log → Claim → Type 0
 HasSegment words log (Reading pool segments) = Unit {0}
-HasSegment words log (Taking pool segments) = word_at words 1 < log.pool
+HasSegment words log (Taking pool segments) = word_at words segment_counter_at < log.pool
 
 pub record AtFetch (words : List ℕ) (log : Log) (staged : List Staged) (fetch : Fetching) (k : Work) (placed : List Placed) (floor : ℕ) : Type 0 where
   pub waits : staged ≡ []

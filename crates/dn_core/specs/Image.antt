@@ -1,4 +1,5 @@
 use Rattle.std.specs.Prelude.{◌≡◌, ◌≢◌, ◌⊎◌, ◌≤◌, ◌<◌, ℕ, ◌+◌, ◌-◌, ◌/◌, ◌++◌, false, List, [], ◌∷◌, Option, Some, None, length, replicate, slice_index, nat_lt, if◌then◌else◌}
+use Rattle.dn_word.specs.Regions.{segments_at, format_at, segment_counter_at}
 use Rattle.dn_word.specs.Format.{format_word}
 use Rattle.dn_word.specs.Gate.{gate_word}
 use Rattle.dn_act.specs.Words.{word_at}
@@ -44,23 +45,23 @@ segments_for words = (words + 1023) / 1024
 -- ---- all words
 -- a word that is none of a single lane's: neither format nor counter of segments, nor its gate, a deed, its directory or a segment
 pub record IsUnused (lane at : ℕ) : Type 0 where
-  pub format : at ≢ 0
-  pub counter : at ≢ 1
+  pub format : at ≢ format_at
+  pub counter : at ≢ segment_counter_at
   pub gate : at ≢ gate_at lane
-  pub deeds : (at < 192) ⊎ (256 ≤ at)
+  pub deeds : (at < deed_at 0) ⊎ (deed_at 64 ≤ at)
   pub directory : (at < directory_at lane 0) ⊎ (directory_at lane 256 ≤ at)
-  pub segments : at < 98304
+  pub segments : at < segments_at
 
 -- The words of a pool of so many segments between the calls of its lane, which brought the gate to this stamp and added these words
 -- to the log: format, deeds and gate; the counter of segments and the directory for as many as the log takes, in order; from the
 -- first segment on the log, and zeros behind it; and 0 at every other word.
 pub record IsImage (words : List ℕ) (lane pool stamp : ℕ) (log : List ℕ) : Type 0 where
-  pub format : word_at words 0 ≡ format_word (record { segments = pool; number = 1 })
-  pub counter : word_at words 1 ≡ segments_for (length log)
+  pub format : word_at words format_at ≡ format_word (record { segments = pool; number = 1 })
+  pub counter : word_at words segment_counter_at ≡ segments_for (length log)
   pub gate_is : word_at words (gate_at lane) ≡ gate_word (record { fenced = false; stamp = stamp; len = length log })
   pub deeds : (s : ℕ) → s < 64 → word_at words (deed_at s) ≡ first_deed lane
   pub directory : (q : ℕ) → q < 256 → directory words lane q ≡ (if nat_lt q (segments_for (length log)) then q + 1 else 0)
-  pub logged : (o : ℕ) → word_at words (98304 + o) ≡ slice_index log o
+  pub logged : (o : ℕ) → word_at words (segments_at + o) ≡ slice_index log o
   pub others : (at : ℕ) → IsUnused lane at → word_at words at ≡ 0
 
 -- ---- and while a call is under way
@@ -80,11 +81,11 @@ brought (Some k) len = brings k.call len k.place
 -- The same while words are on their way to the log: each word of a segment is what it was, or what it will be; the counter has
 -- counted the segments for all of them; and a directory word names its segment or none yet.
 pub record IsExact (words : List ℕ) (lane : ℕ) (receipts : List Receipt) (more : List ℕ) : Type 0 where
-  pub counter : word_at words 1 ≡ segments_for (len_from 0 receipts + length more)
+  pub counter : word_at words segment_counter_at ≡ segments_for (len_from 0 receipts + length more)
   pub gate_is : word_at words (gate_at lane) ≡ gate_word (gate words lane)
   pub deeds : (s : ℕ) → s < 64 → word_at words (deed_at s) ≡ first_deed lane
   pub directory : (q : ℕ) → q < 256 → (directory words lane q ≡ 0) ⊎ (directory words lane q ≡ q + 1)
-  pub log : (o : ℕ) → (word_at words (98304 + o) ≡ slice_index (log_words 0 receipts) o) ⊎ (word_at words (98304 + o) ≡ slice_index (log_words 0 receipts ++ more) o)
+  pub log : (o : ℕ) → (word_at words (segments_at + o) ≡ slice_index (log_words 0 receipts) o) ⊎ (word_at words (segments_at + o) ≡ slice_index (log_words 0 receipts ++ more) o)
   pub others : (at : ℕ) → IsUnused lane at → word_at words at ≡ 0
 
 -- ---- behind a turn of the lane

@@ -1,4 +1,5 @@
 use Rattle.std.specs.Prelude.{◌≡◌, ◌≢◌, ◌⊎◌, ◌≤◌, ◌<◌, ℕ, List, length, slice_set}
+use Rattle.dn_word.specs.Regions.{format_at}
 use Rattle.dn_word.specs.Deed.{deed_word}
 use Rattle.dn_word.specs.Format.{format_word}
 use Rattle.dn_word.specs.declared.packed.deed.DeedState.TheVariants.{Owned}
@@ -17,6 +18,6 @@ pub record IsGranted (words now : List ℕ) (slot lane : ℕ) : Type 0 where
 -- other words are as they were.
 pub record IsOpened (words now : List ℕ) (segments lane : ℕ) : Type 0 where
   pub size : length now ≡ length words
-  pub format : word_at now 0 ≡ format_word (record { segments = segments; number = 1 })
+  pub format : word_at now format_at ≡ format_word (record { segments = segments; number = 1 })
   pub deeds : (s : ℕ) → s < 64 → word_at now (deed_at s) ≡ first_deed lane
   pub others : (at : ℕ) → at ≢ 0 → (at < 192) ⊎ (256 ≤ at) → word_at now at ≡ word_at words at

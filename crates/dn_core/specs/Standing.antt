@@ -1,4 +1,5 @@
 use Rattle.std.specs.Prelude.{◌≡◌, ◌<◌, ◌≤◌, ◌++◌, ℕ, false, List, [], ◌∷◌, length}
+use Rattle.dn_word.specs.Regions.{format_at}
 use Rattle.dn_word.specs.Format.{format_word}
 use Rattle.dn_word.specs.declared.packed.deed.DeedState.TheVariants.{Owned}
 use Rattle.dn_act.specs.Words.{word_at}
@@ -43,7 +44,7 @@ sealed_in (p ∷ ps) = kept_of p.offset p.entry ++ sealed_in ps
 -- The log is the one that the words spell, and has the record of each put and delete that was made, in their order. Each key is
 -- a register: what the log leaves there is what the receipts say, up to the gate's stamp, which each call raised by one at most.
 pub record IsStanding (words : List ℕ) (log : Log) (sealed : List Sealed) (placed : List Placed) (receipts : List Receipt) : Type 0 where
-  pub format : word_at words 0 ≡ format_word (record { segments = log.pool; number = 1 })
+  pub format : word_at words format_at ≡ format_word (record { segments = log.pool; number = 1 })
   pub space : IsSpace words log
   pub directory : NamesSegments words log
   pub gate_is : IsGate words log

@@ -1,6 +1,8 @@
 //! One call of a lane, run action by action.
 
 ghost use Rattle.std.specs.Prelude.{◌≡◌, ◌<◌, ◌≤◌, ◌*◌, ◌+◌, List, length, IsSome, Some, None, IfOk, OnOk, OnErr};
+ghost use Rattle.dn_act.specs.Access.{CountsFault};
+ghost use Rattle.dn_act.specs.Words.{pool_size};
 ghost use Rattle.dn_hist.specs.declared.receipts.Receipt.{Receipt};
 ghost use Rattle.dn_lane.specs.Stamps.{AnswerFits};
 ghost use Rattle.dn_model.specs.Regions.{gate};
@@ -20,18 +22,26 @@ use dn_lane::{Answer, Lane, Turn};
 /// memory's count of faults, and left the pool sound: with the receipts of before, or with the call's own behind them.
 pub fn drive<M: Memory>(lane: &mut Lane, mem: &mut M) -> Result<Answer, Failed>
     requires works { IsSome lane.old.work }
-    requires size { 98304 + 1024 * lane.old.log.pool ≤ length (M.words mem.old) }
-    ensures answer { IfOk result (λ answer. (receipts : List Receipt) (k : Work) → IsSound (M.words mem.old) lane.old receipts → lane.old.work ≡ Some k → Answers k (gate (M.words mem.old) lane.old.log.lane).stamp (M.words mem.new) lane.new receipts answer) }
-    ensures exact { IfOk result (λ answer. (receipts : List Receipt) (k : Work) → IsSound (M.words mem.old) lane.old receipts → lane.old.work ≡ Some k → IsExact (M.words mem.old) lane.old.log.lane receipts (brought lane.old.work (len_from 0 receipts)) → ExactBy (M.words mem.new) lane.old.log.lane receipts answer) }
-    ensures cut_off { OnErr result ((receipts : List Receipt) (k : Work) → IsSound (M.words mem.old) lane.old receipts → lane.old.work ≡ Some k → IsCutOff k (gate (M.words mem.old) lane.old.log.lane).stamp (M.words mem.new) lane.old.log.pool lane.old.log.lane receipts) }
+    requires size { pool_size lane.old.log.pool ≤ length (M.words mem.old) }
+    ensures answer { IfOk result (λ answer. (receipts : List Receipt) (k : Work)
+        → IsSound (M.words mem.old) lane.old receipts → lane.old.work ≡ Some k
+        → Answers k (gate (M.words mem.old) lane.old.log.lane).stamp (M.words mem.new) lane.new
+        receipts answer) }
+    ensures exact { IfOk result (λ answer. (receipts : List Receipt) (k : Work)
+        → IsSound (M.words mem.old) lane.old receipts → lane.old.work ≡ Some k
+        → IsExact (M.words mem.old) lane.old.log.lane receipts
+        (brought lane.old.work (len_from 0 receipts))
+        → ExactBy (M.words mem.new) lane.old.log.lane receipts answer) }
+    ensures cut_off { OnErr result ((receipts : List Receipt) (k : Work)
+        → IsSound (M.words mem.old) lane.old receipts → lane.old.work ≡ Some k
+        → IsCutOff k (gate (M.words mem.old) lane.old.log.lane).stamp (M.words mem.new)
+        lane.old.log.pool lane.old.log.lane receipts) }
     ensures stamp { IfOk result AnswerFits }
     ensures idle { OnOk result (lane.new.work ≡ None) }
     ensures number { lane.new.log.lane ≡ lane.old.log.lane }
     ensures pool { lane.new.log.pool ≡ lane.old.log.pool }
     ensures size { length (M.words mem.new) ≡ length (M.words mem.old) }
-    ensures no_fault { OnOk result (M.faults mem.new ≡ M.faults mem.old) }
-    ensures cause { OnErr result (M.faults mem.old < M.faults mem.new) }
-    ensures faults { M.faults mem.old ≤ M.faults mem.new }
+    ensures count { CountsFault result (M.faults mem.old) (M.faults mem.new) }
 {
     while let Some(action) = lane.next() {
         let word = exec(mem, &action)?;

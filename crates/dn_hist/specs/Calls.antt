@@ -16,6 +16,12 @@ key_of (Get key) = key
 key_of (Put key value) = key
 key_of (Delete key) = key
 
+-- it is a put or delete
+abbrev pub IsWrite : Call → Type 0
+IsWrite (Get key) = ⊥
+IsWrite (Put key value) = Unit {0}
+IsWrite (Delete key) = Unit {0}
+
 -- the answer to a get of a key that has this value, or none
 abbrev pub found_of : Option (List ℕ) → Reply
 found_of None = Absent

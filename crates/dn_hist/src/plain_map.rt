@@ -88,8 +88,8 @@ impl PlainMap {
         }
     }
 
-    /// Changes the map as the call does. Where memory is wanting it stays as it was.
-    pub(crate) fn apply(&mut self, alloc: Global, call: &Call) -> Result<(), OutOfMemory>
+    /// Changes the map as the call does. Only a put takes memory, for a copy of its value; where it is wanting the map stays as it was.
+    pub fn apply(&mut self, alloc: Global, call: &Call) -> Result<(), OutOfMemory>
         ensures ok { OnOk result (self.new ≡ map_after call.now self.old) }
         ensures err { OnErr result (self.new ≡ self.old) }
     {

@@ -1,4 +1,5 @@
 use Rattle.std.specs.Prelude.{◌≡◌, ◌≢◌, ◌⊎◌, ℕ, ◌+◌, ◌<◌, ◌≤◌, List, [], ◌∷◌, Option, Some, None, length, slice_set}
+use Rattle.dn_word.specs.Regions.{segments_at, overflow_counter_at}
 use Rattle.dn_word.specs.Ref.{ref_of, ref_word}
 use Rattle.dn_word.specs.declared.packed.place.Ref.{Ref}
 use Rattle.dn_act.specs.Words.{word_at}
@@ -40,7 +41,7 @@ pub record IsOwned (words : List ℕ) (b h : ℕ) : Type 0 where
 
 -- the words of the pool; a key stands at most once in the chain of its home bucket
 pub record IsIndexed (words : List ℕ) (k : ℕ) : Type 0 where
-  pub long : 98304 ≤ length words
+  pub long : segments_at ≤ length words
   pub once : (b c i j : ℕ) → Stands words b (home_of k) → Stands words c (home_of k) → 1 ≤ i → i ≤ 3 → 1 ≤ j → j ≤ 3
       → bucket words b i ≡ k → bucket words c j ≡ k → (b ≡ c) × (i ≡ j)
 
@@ -55,8 +56,8 @@ pub record IsNew (words : List ℕ) (c : ℕ) : Type 0 where
 
 -- the next overflow bucket that is claimed is new, and the chain has no more overflow buckets than were claimed; its buckets are in no other
 pub record HasRoom (words : List ℕ) (k : ℕ) : Type 0 where
-  pub fresh : word_at words 3 < 4096 → IsNew words (4096 + word_at words 3)
-  pub claimed : (chain : List ℕ) → IsChain words (home_of k) chain → length chain ≤ word_at words 3
+  pub fresh : word_at words overflow_counter_at < 4096 → IsNew words (4096 + word_at words overflow_counter_at)
+  pub claimed : (chain : List ℕ) → IsChain words (home_of k) chain → length chain ≤ word_at words overflow_counter_at
   pub apart : (b : ℕ) → Stands words b (home_of k) → IsOwned words b (home_of k)
 
 -- ---- what find, set and remove do
@@ -76,7 +77,7 @@ SetEnds words k old at now More = ⊥
 SetEnds words k old at now (Found place) = ⊥
 SetEnds words k old at now Absent = ⊥
 SetEnds words k old at now Written = Gives now k (Some (ref_word at))
-SetEnds words k old at now (IndexFull counter) = (counter ≡ word_at words 3) × (4096 ≤ counter) × (now ≡ words) × (old ≡ None)
+SetEnds words k old at now (IndexFull counter) = (counter ≡ word_at words overflow_counter_at) × (4096 ≤ counter) × (now ≡ words) × (old ≡ None)
 
 -- remove ends without the key
 pub record RemoveEnds (k : ℕ) (now : List ℕ) (answer : WalkTurn) : Type 0 where

@@ -1,4 +1,5 @@
 use Rattle.std.specs.Prelude.{◌≡◌, ◌≢◌, ◌⊎◌, ℕ, ◌+◌, ◌-◌, ◌*◌, ◌^◌, ◌<◌, ◌≤◌, ◌==◌, Option, Some, None, nat_lt, if◌then◌else◌}
+use Rattle.dn_word.specs.Regions.{segments_at, overflow_counter_at}
 use Rattle.dn_word.specs.Ref.{ref_of, ref_word}
 use Rattle.dn_word.specs.declared.packed.place.Ref.{Ref}
 use Rattle.dn_act.specs.declared.actions.Action.{Action}
@@ -61,7 +62,7 @@ walk_next w = next_at w.key w.place
 
 -- the overflow counter, or a word of a bucket
 abbrev pub IsOfIndex : ℕ → Type 0
-IsOfIndex at = (at ≡ 3) ⊎ ((32768 ≤ at) × (at < 98304))
+IsOfIndex at = (at ≡ overflow_counter_at) ⊎ ((bucket_at 0 0 ≤ at) × (at < segments_at))
 
 -- ---- the steps
 -- the first place of the chain with 0 for a key

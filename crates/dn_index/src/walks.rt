@@ -199,7 +199,8 @@ impl Walk {
         ensures after { self.new ≡ walk_after self.old word }
         ensures falls { result ≡ WalkTurn.More → actions_left self.new < actions_left self.old }
         ensures full { (counter : ℕ) → result ≡ WalkTurn.IndexFull counter → counter ≡ word }
-        ensures full_where { (counter : ℕ) → result ≡ WalkTurn.IndexFull counter → IsFull self.old.place word }
+        ensures full_where { (counter : ℕ) → result ≡ WalkTurn.IndexFull counter
+            → IsFull self.old.place word }
         ensures full_there { IsFull self.old.place word → result ≡ WalkTurn.IndexFull word }
     {
         match after(self.key, self.place, word) {

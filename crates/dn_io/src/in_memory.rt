@@ -26,7 +26,13 @@ impl Model for BytesIn {
 
     ghost Value = { InputState };
 
-    ghost view = { λ source. record { left = drop source.start source.bytes.items; failing = source.failing.items; calls = source.calls; faults = source.faults } };
+    ghost view = { λ source. record {
+      left = drop source.start source.bytes.items;
+      failing =
+          source.failing.items;
+      calls = source.calls;
+      faults = source.faults;
+    } };
 
     ghost invariant = { λ source. source.start ≤ vec_len source.bytes };
 }
@@ -54,16 +60,20 @@ impl Source for BytesIn {
     /// Takes as many bytes as are left and fit into the piece, unless the call's number is listed.
     fn read(&mut self, into: &mut [u8]) -> Result<usize, Failed>
         ensures within { IfOk result (λ count. count ≤ length into.new) }
-        ensures taken { IfOk result (λ count. Consumes (Some self.old.left) (Some self.new.left) (take count into.new)) }
-        ensures end { IfOk result (λ count. count ≡ 0 → 0 < length into.new → IsAtEnd (Some self.new.left)) }
+        ensures taken { IfOk result (λ count. Consumes (Some self.old.left) (Some self.new.left)
+            (take count into.new)) }
+        ensures end { IfOk result (λ count. count ≡ 0 → 0 < length into.new
+            → IsAtEnd (Some self.new.left)) }
         ensures kept { OnErr result (Keeps (Some self.old.left) (Some self.new.left)) }
         ensures cause { OnErr result (Rose self.old.faults self.new.faults) }
         ensures faults { self.old.faults ≤ self.new.faults }
         ensures fails { is_err result ≡ is_listed self.old.failing (counted self.old.calls) }
-        ensures count { IfOk result (λ count. count ≡ min (length into.old) (length self.old.left)) }
+        ensures count { IfOk result (λ count.
+            count ≡ min (length into.old) (length self.old.left)) }
         ensures listed { self.new.failing ≡ self.old.failing }
         ensures calls { self.new.calls ≡ counted self.old.calls }
-        ensures counted { self.new.faults ≡ (if is_err result then counted self.old.faults else self.old.faults) }
+        ensures counted { self.new.faults ≡ (if is_err result then counted self.old.faults else
+            self.old.faults) }
     {
         self.calls = self.calls.saturating_add(1);
         if self.failing.contains(&self.calls) {
@@ -94,9 +104,17 @@ impl Model for BytesOut {
 
     ghost Value = { OutputState };
 
-    ghost view = { λ sink. record { written = sink.bytes.items; room = sink.room; failing = sink.failing.items; calls = sink.calls; faults = sink.faults } };
+    ghost view = { λ sink. record {
+      written = sink.bytes.items;
+      room = sink.room;
+      failing =
+          sink.failing.items;
+      calls = sink.calls;
+      faults = sink.faults;
+    } };
 
-    ghost invariant = { λ sink. (vec_len sink.bytes ≤ sink.room) × (sink.room ≤ vec_capacity sink.bytes) };
+    ghost invariant = { λ sink. (vec_len sink.bytes ≤ sink.room)
+        × (sink.room ≤ vec_capacity sink.bytes) };
 }
 
 impl BytesOut {
@@ -105,7 +123,7 @@ impl BytesOut {
         ensures { IfOk result (λ sink. sink ≡ fresh_output room failing.items) }
     {
         let room = room as usize;
-        let bytes = Vec::with_capacity(alloc, room).map_err(|_| OutOfMemory)?;
+        let bytes = Vec::with_capacity(alloc, room)?;
         Ok(BytesOut {
             bytes,
             room,
@@ -132,7 +150,8 @@ impl Sink for BytesOut {
     fn write(&mut self, from: &[u8]) -> Result<usize, Failed>
         ensures within { IfOk result (λ count. count ≤ length from.now) }
         ensures some { IfOk result (λ count. 0 < length from.now → 0 < count) }
-        ensures written { IfOk result (λ count. Appends (Some self.old.written) (Some self.new.written) (take count from.now)) }
+        ensures written { IfOk result (λ count. Appends (Some self.old.written)
+            (Some self.new.written) (take count from.now)) }
         ensures kept { OnErr result (Keeps (Some self.old.written) (Some self.new.written)) }
         ensures cause { OnErr result (Rose self.old.faults self.new.faults) }
         ensures faults { self.old.faults ≤ self.new.faults }
@@ -141,7 +160,8 @@ impl Sink for BytesOut {
         ensures room { self.new.room ≡ self.old.room }
         ensures listed { self.new.failing ≡ self.old.failing }
         ensures calls { self.new.calls ≡ counted self.old.calls }
-        ensures counted { self.new.faults ≡ (if is_err result then counted self.old.faults else self.old.faults) }
+        ensures counted { self.new.faults ≡ (if is_err result then counted self.old.faults else
+            self.old.faults) }
     {
         self.calls = self.calls.saturating_add(1);
         let count = from.len().min(self.room - self.bytes.len());

@@ -17,8 +17,10 @@ pub trait Source {
     /// no byte.
     fn read(&mut self, into: &mut [u8]) -> Result<usize, Failed>
         ensures within { IfOk result (λ count. count ≤ length into.new) }
-        ensures taken { IfOk result (λ count. Consumes (left self.old) (left self.new) (take count into.new)) }
-        ensures end { IfOk result (λ count. count ≡ 0 → 0 < length into.new → IsAtEnd (left self.new)) }
+        ensures taken { IfOk result (λ count. Consumes (left self.old) (left self.new)
+            (take count into.new)) }
+        ensures end { IfOk result (λ count. count ≡ 0 → 0 < length into.new
+            → IsAtEnd (left self.new)) }
         ensures kept { OnErr result (Keeps (left self.old) (left self.new)) }
         ensures no_fault { OnOk result (faults self.new ≡ faults self.old) }
         ensures cause { OnErr result (Rose (faults self.old) (faults self.new)) }
@@ -38,7 +40,8 @@ pub trait Sink {
     fn write(&mut self, from: &[u8]) -> Result<usize, Failed>
         ensures within { IfOk result (λ count. count ≤ length from.now) }
         ensures some { IfOk result (λ count. 0 < length from.now → 0 < count) }
-        ensures written { IfOk result (λ count. Appends (written self.old) (written self.new) (take count from.now)) }
+        ensures written { IfOk result (λ count. Appends (written self.old) (written self.new)
+            (take count from.now)) }
         ensures kept { OnErr result (Keeps (written self.old) (written self.new)) }
         ensures no_fault { OnOk result (faults self.new ≡ faults self.old) }
         ensures cause { OnErr result (Rose (faults self.old) (faults self.new)) }

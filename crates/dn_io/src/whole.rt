@@ -20,16 +20,23 @@ pub fn read_all<S: Source>(
     source: &mut S,
     limit: u64,
 ) -> Result<Vec<u8>, ReadAllFault>
-    ensures all { IfOk result (λ bytes. Consumes (S.left source.old) (S.left source.new) bytes.items) }
+    ensures all { IfOk result (λ bytes. Consumes (S.left source.old) (S.left source.new)
+        bytes.items) }
     ensures end { OnOk result (IsAtEnd (S.left source.new)) }
-    ensures whole { IfOk result (λ bytes. (left : List ℕ) → S.left source.old ≡ Some left → bytes.items ≡ left) }
+    ensures whole { IfOk result (λ bytes. (left : List ℕ) → S.left source.old ≡ Some left
+        → bytes.items ≡ left) }
     ensures short { IfOk result (λ bytes. vec_len bytes ≤ limit) }
-    ensures refused { IfErr result (λ fault. TookFront (S.left source.old) (S.left source.new) (EndsReading fault limit)) }
-    ensures long { IsErrOf result ReadAllFault.Long → (left : List ℕ) → S.left source.old ≡ Some left → limit < length left }
-    ensures cause { IsErrOf result ReadAllFault.Read → Rose (S.faults source.old) (S.faults source.new) }
+    ensures refused { IfErr result (λ fault. TookFront (S.left source.old) (S.left source.new)
+        (EndsReading fault limit)) }
+    ensures long { IsErrOf result ReadAllFault.Long → (left : List ℕ)
+        → S.left source.old ≡ Some left → limit < length left }
+    ensures cause { IsErrOf result ReadAllFault.Read
+        → Rose (S.faults source.old) (S.faults source.new) }
     ensures no_fault { OnOk result (S.faults source.new ≡ S.faults source.old) }
-    ensures long_no_fault { IsErrOf result ReadAllFault.Long → S.faults source.new ≡ S.faults source.old }
-    ensures want_no_fault { IsErrOf result ReadAllFault.OutOfMemory → S.faults source.new ≡ S.faults source.old }
+    ensures long_no_fault { IsErrOf result ReadAllFault.Long
+        → S.faults source.new ≡ S.faults source.old }
+    ensures want_no_fault { IsErrOf result ReadAllFault.OutOfMemory
+        → S.faults source.new ≡ S.faults source.old }
     ensures faults { S.faults source.old ≤ S.faults source.new }
 {
     let mut bytes = Vec::new(alloc);

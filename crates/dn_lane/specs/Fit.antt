@@ -1,4 +1,5 @@
 use Rattle.std.specs.Prelude.{◌≡◌, ◌+◌, ◌*◌, ◌^◌, ◌<◌, ℕ, List, [], length, All, Option, Some, None, false, true}
+use Rattle.dn_act.specs.Words.{pool_size}
 use Rattle.dn_log.specs.Log.{Log, plan_of}
 use Rattle.dn_log.specs.declared.claims.Claim.{Claim}
 use Rattle.dn_log.specs.declared.claims.Claim.TheVariants.{Reading, Taking}
@@ -34,7 +35,7 @@ IsSpareFor log segment = (log.spare ≡ None) × (length log.segments < 256) × 
 -- what the numbers of a place are within
 abbrev pub FitsAt : LaneState → Work → Place → Type 0
 FitsAt l k at.Look = Unit {0}
-FitsAt l k (at.Fetch floor) = (floor < 2 ^ 31) × (is_under_way l.fetch ≡ true) × (at_of (fetch_next l.fetch) < 98304 + 1024 * l.log.pool)
+FitsAt l k (at.Fetch floor) = (floor < 2 ^ 31) × (is_under_way l.fetch ≡ true) × (at_of (fetch_next l.fetch) < pool_size l.log.pool)
 FitsAt l k (at.Gate floor located) = floor < 2 ^ 31
 FitsAt l k (at.Raise located gate to) = to.stamp < 2 ^ 31
 FitsAt l k (at.Claim located gate to claim) = (to.stamp < 2 ^ 31) × IsWrite k.call × ClaimsFor l.log claim

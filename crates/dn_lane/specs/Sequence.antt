@@ -1,4 +1,6 @@
 use Rattle.std.specs.Prelude.{ℕ, ◌+◌, ◌-◌, ◌*◌, ◌^◌, ◌==◌, ◌&&◌, Bool, true, List, [], ◌∷◌, length, Option, Some, None, nat_lt, nat_le, if◌then◌else◌}
+use Rattle.dn_word.specs.Regions.{segments_at}
+use Rattle.dn_act.specs.Words.{pool_size}
 use Rattle.dn_word.specs.Deed.{deed_of}
 use Rattle.dn_word.specs.Gate.{gate_of}
 use Rattle.dn_word.specs.Need.{quiet_of, raised_of}
@@ -103,13 +105,13 @@ passes_gate log view call floor way reply =
 -- ---- the fetch of the key's last pending record
 -- a word of a directory, which stands before the segments, names one of the pool's segments
 abbrev pub is_named : ℕ → Action → ℕ → Bool
-is_named pool action word = if nat_lt (at_of action) 98304 then nat_lt 0 word && nat_le word pool else true
+is_named pool action word = if nat_lt (at_of action) segments_at then nat_lt 0 word && nat_le word pool else true
 
 -- the value that a fetch brings; one that leads past the pool, or by a word that names no segment, brings none
 abbrev pub brings : ℕ → Program Fetched → Program (Option (List ℕ))
 brings pool (Return fetched) = Return (value_by fetched.turn fetched.words)
 brings pool (Do action k) =
-    if nat_lt (at_of action) (98304 + 1024 * pool)
+    if nat_lt (at_of action) (pool_size pool)
     then Do action (λ word. if is_named pool action word then brings pool (k word) else Return None)
     else Return None
 

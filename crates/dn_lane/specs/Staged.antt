@@ -1,4 +1,5 @@
 use Rattle.std.specs.Prelude.{ℕ, ◌+◌, ◌*◌, ◌++◌, ◌<◌, List, [], ◌∷◌, All, Option, Some, None}
+use Rattle.dn_act.specs.Words.{pool_size}
 use Rattle.dn_hist.specs.declared.calls.Call.{Call}
 use Rattle.dn_hist.specs.declared.calls.Call.TheVariants.{Get, Put, Delete}
 use Rattle.dn_record.specs.Record.{spelling}
@@ -39,4 +40,4 @@ staged_of log call = staged_by log (plan_of log (record_words call)) (spelled ca
 
 -- the words go to words of a pool of so many segments
 abbrev pub AreWithin : ℕ → List Staged → Type 0
-AreWithin pool staged = All (λ (s : Staged). s.at < 98304 + 1024 * pool) staged
+AreWithin pool staged = All (λ (s : Staged). s.at < pool_size pool) staged

@@ -1,4 +1,5 @@
 use Rattle.std.specs.Prelude.{ℕ, ◌+◌, ◌^◌, ◌-◌, ◌*◌, ◌==◌, ◌&&◌, ◌++◌, List, [], ◌∷◌, Option, Some, None, Bool, true, false, length, take, drop, nat_lt, nat_le, if◌then◌else◌}
+use Rattle.dn_act.specs.Words.{pool_size}
 use Rattle.dn_word.specs.Bytes.{bytes_of}
 use Rattle.dn_word.specs.Deed.{deed_of}
 use Rattle.dn_word.specs.Gate.{gate_of}
@@ -126,7 +127,7 @@ names_segment log f word = if is_directory f.place then nat_lt 0 word && nat_le 
 
 -- a fetch goes on as long as its next load lies in the pool
 abbrev pub within_pool : Log → FetchTurn → Fetching → FetchTurn
-within_pool log fetched.More f = if nat_lt (at_of (fetch_next f)) (98304 + 1024 * log.pool) then fetched.More else fetched.Absent
+within_pool log fetched.More f = if nat_lt (at_of (fetch_next f)) (pool_size log.pool) then fetched.More else fetched.Absent
 within_pool log fetched.Done f = fetched.Done
 within_pool log fetched.Absent f = fetched.Absent
 

@@ -1,4 +1,5 @@
 ghost use Rattle.std.specs.Prelude.{◌≡◌, ◌<◌, ◌≤◌, ◌^◌, None, length, IfOk, OnOk, OnErr, IfErr, is_some};
+ghost use Rattle.dn_word.specs.Regions.{IsLane};
 ghost use Rattle.dn_lane.specs.State.{LaneState};
 ghost use Rattle.dn_lane.specs.Begun.{fresh, begun, refusal_of, Refuses};
 ghost use Rattle.dn_lane.specs.Sequence.{Calls, call_sequence};
@@ -48,7 +49,7 @@ impl Lane {
     /// A lane with this number, from 1 to 63, in a pool of so many segments, from 1 to 8,192. Its log is empty, and no call
     /// is under way. Answers want of memory, or the lane.
     pub fn new(alloc: Global, lane: u8, segments: u32) -> Result<Lane, OutOfMemory>
-        requires lane { lane < 64 }
+        requires lane { IsLane lane }
         requires segments { segments ≤ 8192 }
         ensures { IfOk result (λ made. made ≡ fresh lane segments) }
     {
@@ -105,7 +106,8 @@ impl Lane {
         requires last { session.now.last.stamp < 2 ^ 31 }
         requires hint { session.now.hint ≡ None }
         ensures ok { OnOk result (self.new ≡ begun self.old session.now call.now) }
-        ensures sequence { OnOk result (Calls self.new (call_sequence self.old.log self.old.sealed session.now call.now)) }
+        ensures sequence { OnOk result (Calls self.new
+            (call_sequence self.old.log self.old.sealed session.now call.now)) }
         ensures free { OnOk result (refusal_of self.old ≡ None) }
         ensures cause { IfErr result (Refuses (refusal_of self.old)) }
         ensures same { OnErr result (self.new ≡ self.old) }

@@ -13,7 +13,8 @@ pub struct Sealed {
 /// The offset of the key's last record.
 pub fn last_of(sealed: &[Sealed], key: u64) -> Option<u32>
     ensures value { result ≡ last_of key sealed.now }
-    ensures within { (most : ℕ) → All (λ (s : Sealed). s.offset < most) sealed.now → IfSome result (λ offset. offset < most) }
+    ensures within { (most : ℕ) → All (λ (s : Sealed). s.offset < most) sealed.now
+        → IfSome result (λ offset. offset < most) }
 {
     sealed
         .iter()

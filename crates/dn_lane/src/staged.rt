@@ -30,7 +30,8 @@ fn stage_words(log: &LogWriter, staging: &mut Staging, at: u32, words: &[u64])
 fn stage_directory(log: &LogWriter, staging: &mut Staging, plan: &Plan)
     requires room { length staging.old < 140 }
     requires before { AreWithin log.now.pool staging.old }
-    ensures value { staging.new ≡ staging.old ++ directory_staged log.now (new_segment_of log.now plan.now) }
+    ensures value { staging.new ≡ staging.old
+        ++ directory_staged log.now (new_segment_of log.now plan.now) }
     ensures within { AreWithin log.now.pool staging.new }
     ensures count { length staging.new ≤ length staging.old + 1 }
 {

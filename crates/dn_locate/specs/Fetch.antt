@@ -1,4 +1,6 @@
 use Rattle.std.specs.Prelude.{◌≡◌, ◌≢◌, ℕ, ◌+◌, ◌-◌, ◌*◌, ◌/◌, ◌%◌, ◌^◌, ◌<◌, ◌≤◌, ◌++◌, ◌∷◌, [], ◌&&◌, ◌==◌, Bool, true, false, List, length, Option, Some, None, not, if◌then◌else◌}
+use Rattle.dn_word.specs.Regions.{segment_at}
+use Rattle.dn_act.specs.Words.{pool_size}
 use Rattle.dn_word.specs.Ref.{ref_of}
 use Rattle.dn_word.specs.declared.packed.place.Ref.{Ref}
 use Rattle.dn_act.specs.declared.actions.Action.{Action}
@@ -59,7 +61,7 @@ directory_of at = 1024 + 256 * at.lane + at.offset / 1024
 
 -- the pool's word of the offset; the directory word is the number of its segment plus 1
 abbrev pub from_of : Ref → ℕ → ℕ
-from_of at word = 98304 + 1024 * (word - 1) + at.offset % 1024
+from_of at word = segment_at (word - 1) + at.offset % 1024
 
 -- the loads: the directory word, then the record's words in their order
 abbrev pub next_at : Fetching → FetchPlace → Action
@@ -188,9 +190,9 @@ fetch_left f = 140 * f.follows + left_in (length f.words) f.place
 abbrev pub FitsAt : ℕ → FetchPlace → Type 0
 FitsAt number Idle = Unit {0}
 FitsAt number Directory = number ≡ 0
-FitsAt number (Header from) = (number ≡ 0) × (from < 8486912)
-FitsAt number (Content from count) = (1 ≤ number) × (number < count) × (count ≤ 133) × (from < 8486912)
-FitsAt number (Link from) = (1 ≤ number) × (number < 3) × (from < 8486912)
+FitsAt number (Header from) = (number ≡ 0) × (from < pool_size 8192)
+FitsAt number (Content from count) = (1 ≤ number) × (number < count) × (count ≤ 133) × (from < pool_size 8192)
+FitsAt number (Link from) = (1 ≤ number) × (number < 3) × (from < pool_size 8192)
 
 -- so many words behind the header are those of a record
 abbrev pub IsRest : Rest → Type 0

@@ -1,4 +1,5 @@
 ghost use Rattle.std.specs.Prelude.{◌≡◌, ◌+◌, ◌*◌, ◌<◌, ◌^◌, ◌↔◌, true, IfOk, IsTrue, length};
+ghost use Rattle.dn_act.specs.Words.{pool_size};
 ghost use Rattle.dn_locate.specs.Fetch.{idle, started, fetch_next, fetch_turn, fetch_after, fetch_left, is_under_way, is_directory, IsDirectory, IsAstray, directory_of, from_of, joined, FitsStep};
 ghost use Rattle.dn_locate.specs.Sequence.{Fetches, sequence};
 
@@ -70,9 +71,26 @@ impl Model for Fetch {
 
     ghost Value = { Fetching };
 
-    ghost view = { λ f. record { key = f.key; wish = f.wish; at = f.at; place = f.place; words = f.words.items; follows = f.follows } };
+    ghost view = { λ f. record {
+      key = f.key;
+      wish = f.wish;
+      at = f.at;
+      place = f.place;
+      words =
+          f.words.items;
+      follows = f.follows;
+    } };
 
-    ghost invariant = { λ f. (133 ≤ vec_capacity f.words) × IsFetch (record { key = f.key; wish = f.wish; at = f.at; place = f.place; words = f.words.items; follows = f.follows }) };
+    ghost invariant = { λ f. (133 ≤ vec_capacity f.words)
+        × IsFetch (record {
+          key = f.key;
+          wish = f.wish;
+          at = f.at;
+          place = f.place;
+          words =
+              f.words.items;
+          follows = f.follows;
+        }) };
 }
 
 /// The directory word of a place's segment.
@@ -88,7 +106,7 @@ fn word_of(at: Ref, directory: u64) -> u32
     requires least { 0 < directory }
     requires most { directory < 8193 }
     ensures value { result ≡ from_of at directory }
-    ensures below { result < 8486912 }
+    ensures below { result < pool_size 8192 }
 {
     segment_at(directory as u32 - 1) + at.offset % SEGMENT_WORDS
 }
@@ -98,7 +116,7 @@ impl Fetch {
     pub fn new(alloc: Global) -> Result<Fetch, OutOfMemory>
         ensures { IfOk result (λ fetch. fetch ≡ idle) }
     {
-        let words = Vec::with_capacity(alloc, ROOM).map_err(|_| OutOfMemory)?;
+        let words = Vec::with_capacity(alloc, ROOM)?;
         Ok(Fetch {
             key: 0,
             wish: Wish::Kind,

@@ -1,4 +1,5 @@
 ghost use Rattle.std.specs.Prelude.{◌≡◌, ◌<◌};
+ghost use Rattle.dn_act.specs.Words.{pool_size};
 ghost use Rattle.dn_word.specs.Ref.{ref_of};
 ghost use Rattle.dn_record.specs.Head.{IsHead};
 ghost use Rattle.dn_record.specs.Reading.{head_in};
@@ -64,7 +65,7 @@ fn go(place: FetchPlace) -> FetchStep
 
 /// The step after a header, at this word of the pool.
 pub(crate) fn after_header(from: u32, wish: Wish, word: u64) -> FetchStep
-    requires { from < 8486912 }
+    requires { from < pool_size 8192 }
     ensures value { result ≡ headed from wish (head_in word) }
     ensures fits { FitsStep 0 0 result.place result.follow }
 {

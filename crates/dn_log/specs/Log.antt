@@ -1,5 +1,6 @@
 use Rattle.std.specs.Prelude.{◌≡◌, ℕ, ◌+◌, ◌-◌, ◌*◌, ◌/◌, ◌%◌, ◌<◌, ◌≤◌, ◌++◌, Bool, List, length, All, Option, Some, None, nat_lt, slice_index, option_to_list, if◌then◌else◌}
 use Rattle.std.specs.Option.{option_map}
+use Rattle.dn_word.specs.Regions.{segments_at}
 use Rattle.dn_log.specs.declared.plans.Plan.{Plan}
 use Rattle.dn_log.specs.declared.plans.NewSegment.{NewSegment}
 
@@ -78,7 +79,7 @@ new_segment_of log plan = if nat_lt (1024 * length log.segments) plan.len
 
 -- the pool's word of an offset
 abbrev pub word_of : Log → ℕ → ℕ
-word_of log offset = 98304 + (1024 * slice_index (reach_of log) (offset / 1024) + offset % 1024)
+word_of log offset = segments_at + (1024 * slice_index (reach_of log) (offset / 1024) + offset % 1024)
 
 -- a log that fits the pool
 pub record IsFit (log : Log) : Type 0 where

@@ -34,7 +34,8 @@ impl Model for Staging {
 
     ghost view = { λ staging. staging.words.items };
 
-    ghost invariant = { λ staging. (vec_len staging.words ≤ 140) × (140 ≤ vec_capacity staging.words) };
+    ghost invariant = { λ staging. (vec_len staging.words ≤ 140)
+        × (140 ≤ vec_capacity staging.words) };
 }
 
 impl Staging {
@@ -42,7 +43,7 @@ impl Staging {
     pub fn new(alloc: Global) -> Result<Staging, OutOfMemory>
         ensures { IfOk result (λ staging. staging ≡ []) }
     {
-        let words = Vec::with_capacity(alloc, ROOM).map_err(|_| OutOfMemory)?;
+        let words = Vec::with_capacity(alloc, ROOM)?;
         Ok(Staging { words })
     }
 

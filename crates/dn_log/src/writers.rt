@@ -1,4 +1,6 @@
 ghost use Rattle.std.specs.Prelude.{◌≡◌, ◌<◌, ◌≤◌, ◌+◌, ◌*◌, ◌^◌, [], None, Some, ℕ, length, IfOk, IfSome, false, true};
+ghost use Rattle.dn_word.specs.Regions.{IsLane, segments_at};
+ghost use Rattle.dn_act.specs.Words.{pool_size};
 ghost use Rattle.dn_log.specs.Log.{plan_of, sealed_of, word_of, reach_of, new_segment_of, IsPlan, IsPlaced, Fills};
 
 use crate::plans::{NewSegment, Plan};
@@ -24,19 +26,34 @@ impl Model for LogWriter {
 
     ghost Value = { Log };
 
-    ghost view = { λ a. record { lane = a.lane; pool = a.pool; len = a.len; segments = a.segments.items; spare = a.spare } };
+    ghost view = { λ a. record {
+      lane = a.lane;
+      pool = a.pool;
+      len = a.len;
+      segments =
+          a.segments.items;
+      spare = a.spare;
+    } };
 
-    ghost invariant = { λ a. (256 ≤ vec_capacity a.segments) × IsFit (record { lane = a.lane; pool = a.pool; len = a.len; segments = a.segments.items; spare = a.spare }) };
+    ghost invariant = { λ a. (256 ≤ vec_capacity a.segments)
+        × IsFit (record {
+          lane = a.lane;
+          pool = a.pool;
+          len = a.len;
+          segments = a.segments.items;
+          spare = a.spare;
+        }) };
 }
 
 impl LogWriter {
-    /// The empty log of a lane, in a pool of so many segments, with room for the lane's 256. Answers want of memory, or the log.
+    /// The empty log of a lane, from 1 to 63, in a pool of so many segments, with room for the lane's 256. Answers want of memory, or the log.
     pub fn new(alloc: Global, lane: u8, segments: u32) -> Result<LogWriter, OutOfMemory>
-        requires lane { lane < 64 }
+        requires lane { IsLane lane }
         requires segments { segments ≤ 8192 }
-        ensures { IfOk result (λ log. log ≡ record { lane = lane; pool = segments; len = 0; segments = []; spare = None }) }
+        ensures { IfOk result (λ log. log
+            ≡ record { lane = lane; pool = segments; len = 0; segments = []; spare = None }) }
     {
-        let own = Vec::with_capacity(alloc, LANE_SEGMENTS as usize).map_err(|_| OutOfMemory)?;
+        let own = Vec::with_capacity(alloc, LANE_SEGMENTS as usize)?;
         Ok(LogWriter {
             lane,
             pool: segments,
@@ -134,8 +151,8 @@ impl LogWriter {
     pub fn word_at(&self, offset: u32) -> u32
         requires { offset < 1024 * length (reach_of self.now) }
         ensures value { result ≡ word_of self.now offset }
-        ensures least { 98304 ≤ result }
-        ensures below { result < 98304 + 1024 * self.now.pool }
+        ensures least { segments_at ≤ result }
+        ensures below { result < pool_size self.now.pool }
     {
         let number = (offset / SEGMENT_WORDS) as usize;
         let segment = if number < self.segments.len() {

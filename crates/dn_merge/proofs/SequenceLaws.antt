@@ -4,7 +4,7 @@ use Rattle.dn_record.specs.Head.{head_words}
 use Rattle.dn_record.specs.Reading.{head_in}
 use Rattle.dn_record.specs.declared.heads.Head.{Head}
 use Rattle.dn_record.specs.declared.heads.Head.TheVariants as head
-use Rattle.dn_model.specs.Regions.{home_of}
+use Rattle.dn_model.specs.Regions.{home_of, place_in}
 use Rattle.dn_model.specs.Program.{Program, Return, ◌>>=◌, Turn, Goes, Ends, Runs, lifted}
 use Rattle.dn_model.proofs.ProgramLaws.{runs_then}
 use Rattle.dn_index.specs.Walk.{Walking, begun, walk_next, walk_turn, walk_after}
@@ -13,7 +13,7 @@ use Rattle.dn_index.specs.declared.places.Errand.TheVariants as errand
 use Rattle.dn_index.specs.declared.places.WalkTurn.{WalkTurn}
 use Rattle.dn_index.specs.declared.places.WalkTurn.TheVariants as walk
 use Rattle.dn_index.proofs.SequenceLaws.{set_run, remove_run}
-use Rattle.dn_merge.specs.Merge.{Merging, started, ended, on, word_of, change_of, by_change, headed, walked, merge_next}
+use Rattle.dn_merge.specs.Merge.{Merging, started, ended, on, change_of, by_change, headed, walked, merge_next}
 use Rattle.dn_merge.specs.Sequence.{pass, pass_after, set_by, remove_by, by_kind, by_header, record_at, sequence, turn_at, merge_taken, Merges}
 use Rattle.dn_merge.specs.declared.places.Change.TheVariants.{Set, Remove}
 use Rattle.dn_merge.specs.declared.places.MergePlace.{MergePlace}
@@ -105,10 +105,10 @@ record_run lane mark = (
   refl,
   refl,
   λ directory. (
-    merging lane (at.Header mark (word_of mark directory)),
+    merging lane (at.Header mark (place_in directory mark)),
     refl,
     refl,
-    λ header. header_run lane mark (word_of mark directory) (head_in header),
+    λ header. header_run lane mark (place_in directory mark) (head_in header),
   ),
 )
 

@@ -1,4 +1,6 @@
 use Rattle.std.specs.Prelude.{◌≡◌, ◌≢◌, ℕ, ◌+◌, ◌*◌, ◌/◌, ◌%◌, ◌^◌, ◌<◌, ◌≤◌, ◌==◌, Option, Some, None, if◌then◌else◌}
+use Rattle.dn_word.specs.Regions.{segments_at}
+use Rattle.dn_act.specs.Words.{pool_size}
 use Rattle.dn_word.specs.Gate.{gate_of}
 use Rattle.dn_word.specs.declared.packed.place.Ref.{Ref}
 use Rattle.dn_act.specs.declared.actions.Action.{Action}
@@ -7,7 +9,7 @@ use Rattle.dn_record.specs.Head.{head_words}
 use Rattle.dn_record.specs.Reading.{head_in}
 use Rattle.dn_record.specs.declared.heads.Head.{Head}
 use Rattle.dn_record.specs.declared.heads.Head.TheVariants as head
-use Rattle.dn_model.specs.Regions.{gate_at, mark_at, directory_at, home_of}
+use Rattle.dn_model.specs.Regions.{gate_at, mark_at, directory_at, place_in, home_of}
 use Rattle.dn_index.specs.Walk.{Walking, begun, walk_next, walk_turn, walk_after, IsWord, IsFull as NeedsMore}
 use Rattle.dn_index.specs.declared.places.Errand.{Errand}
 use Rattle.dn_index.specs.declared.places.Errand.TheVariants as errand
@@ -47,10 +49,6 @@ change_of head.Unshare = Some Set
 change_of (head.Loose bytes) = None
 change_of head.LooseDelete = None
 change_of (head.Pad words) = None
-
--- the pool's word of an offset; the directory word is the number of its segment plus 1
-abbrev pub word_of : ℕ → ℕ → ℕ
-word_of offset directory = 97280 + (directory * 1024 + offset % 1024)
 
 -- after the mark: all is merged where the gate's length is the mark
 abbrev pub marked : ℕ → ℕ → MergeStep
@@ -100,7 +98,7 @@ merge_next m = next_in m.lane m.place
 abbrev pub step_in : ℕ → ℕ → MergePlace → MergeStep
 step_in lane word AtGate = on (Mark word)
 step_in lane word (Mark gate) = marked gate word
-step_in lane word (Directory mark) = on (Header mark (word_of mark word))
+step_in lane word (Directory mark) = on (Header mark (place_in word mark))
 step_in lane word (Header mark from) = headed mark from (head_in word)
 step_in lane word (Key mark from to change) = keyed (record { lane = lane; offset = mark }) to change word
 step_in lane word (Walk to w) = walked to (walk_turn w word) (walk_after w word)
@@ -163,8 +161,8 @@ abbrev pub FitsAt : MergePlace → Type 0
 FitsAt AtGate = Unit {0}
 FitsAt (Mark gate) = gate < 2 ^ 64
 FitsAt (Directory mark) = mark ≤ 262144
-FitsAt (Header mark from) = (mark ≤ 262144) × (98304 ≤ from) × (from < 8486912)
-FitsAt (Key mark from to change) = (mark ≤ 262144) × (98304 ≤ from) × (from < 8486912) × (to < 327680)
+FitsAt (Header mark from) = (mark ≤ 262144) × (segments_at ≤ from) × (from < pool_size 8192)
+FitsAt (Key mark from to change) = (mark ≤ 262144) × (segments_at ≤ from) × (from < pool_size 8192) × (to < 327680)
 FitsAt (Walk to w) = to < 327680
 FitsAt (Pass to) = to < 327680
 

@@ -4,12 +4,12 @@ use Rattle.dn_record.specs.Head.{head_words}
 use Rattle.dn_record.specs.Reading.{head_in}
 use Rattle.dn_record.specs.declared.heads.Head.{Head}
 use Rattle.dn_record.specs.declared.heads.Head.TheVariants as head
-use Rattle.dn_model.specs.Regions.{gate_at, mark_at, directory_at}
+use Rattle.dn_model.specs.Regions.{gate_at, mark_at, directory_at, place_in}
 use Rattle.dn_model.specs.Program.{Program, Return, ◌>>=◌, load, store, Turn, Goes, Ends, Runs}
 use Rattle.dn_index.specs.Sequence.{set_program, remove_program}
 use Rattle.dn_index.specs.declared.places.WalkTurn.{WalkTurn}
 use Rattle.dn_index.specs.declared.places.WalkTurn.TheVariants as walk
-use Rattle.dn_merge.specs.Merge.{Merging, word_of, merge_next, merge_turn, merge_after}
+use Rattle.dn_merge.specs.Merge.{Merging, merge_next, merge_turn, merge_after}
 use Rattle.dn_merge.specs.declared.places.MergePlace.{MergePlace}
 use Rattle.dn_merge.specs.declared.places.MergePlace.TheVariants as at
 use Rattle.dn_merge.specs.declared.mergers.MergeTurn.{MergeTurn}
@@ -57,8 +57,8 @@ by_header lane mark from (Some found) = by_kind lane mark from (mark + head_word
 abbrev pub record_at : ℕ → ℕ → Program MergeTurn
 record_at lane mark =
     load (directory_at lane (mark / 1024)) >>= λ directory.
-    load (word_of mark directory) >>= λ header.
-    by_header lane mark (word_of mark directory) (head_in header)
+    load (place_in directory mark) >>= λ header.
+    by_header lane mark (place_in directory mark) (head_in header)
 
 -- the whole turn
 abbrev pub sequence : ℕ → Program MergeTurn

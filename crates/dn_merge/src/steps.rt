@@ -1,9 +1,12 @@
 //! Where a merger goes on by the word that an action found.
 
 ghost use Rattle.std.specs.Prelude.{◌≡◌, ◌≢◌, ◌<◌, ◌≤◌, ◌+◌, ◌^◌, ◌↔◌, ℕ};
+ghost use Rattle.dn_word.specs.Regions.{segments_at};
+ghost use Rattle.dn_model.specs.Regions.{place_in};
+ghost use Rattle.dn_act.specs.Words.{pool_size};
 ghost use Rattle.dn_record.specs.Reading.{head_in};
 ghost use Rattle.dn_index.specs.Walk.{walk_turn, walk_after, actions_left, IsWord, IsFull as NeedsMore};
-ghost use Rattle.dn_merge.specs.Merge.{ended, on, change_of, marked, word_of, headed, by_change, keyed, walked, FitsAt};
+ghost use Rattle.dn_merge.specs.Merge.{ended, on, change_of, marked, headed, by_change, keyed, walked, FitsAt};
 ghost use Rattle.dn_merge.specs.Left.{HasFewer};
 
 use crate::mergers::MergeTurn;
@@ -69,8 +72,8 @@ pub(crate) fn after_mark(gate: u64, word: u64) -> MergeStep
 fn word_of(offset: u32, directory: u64) -> u32
     requires least { 0 < directory }
     requires most { directory ≤ 8192 }
-    ensures value { result ≡ word_of offset directory }
-    ensures below { result < 8486912 }
+    ensures value { result ≡ place_in directory offset }
+    ensures below { result < pool_size 8192 }
 {
     segment_at(directory as u32 - 1) + offset % SEGMENT_WORDS
 }
@@ -80,7 +83,7 @@ pub(crate) fn after_directory(mark: u32, word: u64) -> MergeStep
     requires mark { mark ≤ 262144 }
     requires least { 0 < word }
     requires most { word ≤ 8192 }
-    ensures value { result ≡ on (MergePlace.Header mark (word_of mark word)) }
+    ensures value { result ≡ on (MergePlace.Header mark (place_in word mark)) }
     ensures fits { FitsAt result.place }
 {
     go(MergePlace::Header {
@@ -92,8 +95,8 @@ pub(crate) fn after_directory(mark: u32, word: u64) -> MergeStep
 /// After the header. One that is outside the grammar, which no sealed log has, ends the turn.
 pub(crate) fn after_header(mark: u32, from: u32, word: u64) -> MergeStep
     requires mark { mark ≤ 262144 }
-    requires least { 98304 ≤ from }
-    requires most { from < 8486912 }
+    requires least { segments_at ≤ from }
+    requires most { from < pool_size 8192 }
     ensures value { result ≡ headed mark from (head_in word) }
     ensures fits { FitsAt result.place }
     ensures falls { HasFewer 16396 result.place }
@@ -136,7 +139,8 @@ pub(crate) fn after_walk(to: u32, walk: Walk, word: u64) -> MergeStep
     ensures value { result ≡ walked to (walk_turn walk word) (walk_after walk word) }
     ensures fits { FitsAt result.place }
     ensures falls { HasFewer (1 + actions_left walk) result.place }
-    ensures full { (counter : ℕ) → result.turn ≡ MergeTurn.IndexFull counter ↔ (word ≡ counter) × NeedsMore walk.place word }
+    ensures full { (counter : ℕ) → result.turn ≡ MergeTurn.IndexFull counter ↔ (word ≡ counter)
+        × NeedsMore walk.place word }
 {
     let mut walk = walk;
     match walk.take(word) {

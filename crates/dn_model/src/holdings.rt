@@ -40,7 +40,8 @@ fn later<'a>(
     key: u64,
     before: Option<&'a Record>,
 ) -> Option<&'a Record>
-    ensures { option_copied result ≡ (if nat_le merged placed.now.offset && is_authority key placed.now.entry
+    ensures { option_copied result
+        ≡ (if nat_le merged placed.now.offset && is_authority key placed.now.entry
         then Some placed.now.entry else option_copied before.entry) }
 {
     if merged <= placed.offset as u64 && is_authority_of(&placed.entry, key) {
@@ -145,7 +146,8 @@ fn held_by<'a>(words: &[u64], logs: &'a [List<Placed>], key: u64, entry: &'a Rec
 
 /// The last unmerged authority record of the key in its owner's log: that of the lane that the deed of its slot names.
 fn pending<'a>(words: &[u64], logs: &'a [List<Placed>], key: u64) -> Option<&'a Record>
-    ensures { option_copied result ≡ unmerged key (mark words.now (owner words.now key)) (logs_of logs.now (owner words.now key)) }
+    ensures { option_copied result ≡ unmerged key (mark words.now (owner words.now key))
+        (logs_of logs.now (owner words.now key)) }
 {
     let lane = Deed::read(word(words, deed_at(slot_of(key)) as u64)).lane;
     match logs.get(lane as usize) {
@@ -161,7 +163,8 @@ fn held_by_index<'a>(
     key: u64,
     place: Option<u64>,
 ) -> Held<'a>
-    ensures { told result ≡ held_from words.now (logs_of logs.now) key (indexed (logs_of logs.now) key place) }
+    ensures { told result ≡ held_from words.now (logs_of logs.now) key
+        (indexed (logs_of logs.now) key place) }
 {
     match place {
         None => Held::Nothing,

@@ -45,7 +45,7 @@ pub(crate) fn chain_of(
             return Ok(None);
         }
         at = next as u32;
-        chain.push(at).map_err(|_| OutOfMemory)?;
+        chain.push(at)?;
     }
     Ok(None)
 }

@@ -9,7 +9,7 @@ ghost use Rattle.dn_record.specs.declared.records.Record.{Record as RecordOf};
 ghost use Rattle.dn_model.specs.declared.logs.Placed.{Placed as PlacedOf};
 
 use dn_record::{Record, read, words_of};
-use dn_word::regions::{directory_at, gate_at};
+use dn_word::regions::{SEGMENTS_AT, directory_at, gate_at};
 use dn_word::{Gate, List, OutOfMemory};
 use std::alloc::Global;
 
@@ -40,7 +40,10 @@ fn word_of(words: &[u64], lane: u8, offset: u32) -> u64
 {
     let segment = word(words, directory_at(lane, offset / 1024) as u64);
     if segment < 0x20_0000_0000_0000 {
-        word(words, 97280 + (segment * 1024 + offset as u64 % 1024))
+        word(
+            words,
+            SEGMENTS_AT as u64 - 1024 + (segment * 1024 + offset as u64 % 1024),
+        )
     } else {
         0
     }
@@ -61,8 +64,7 @@ fn piece(
     let mut piece = Vec::new(alloc);
     for i in 0..count {
         piece
-            .push(word_of(words, lane, offset + i))
-            .map_err(|_| OutOfMemory)?;
+            .push(word_of(words, lane, offset + i))?;
     }
     Ok(piece)
 }
@@ -86,8 +88,10 @@ fn record_of(
 ) -> Result<Option<Record>, OutOfMemory>
     requires lane { lane < 64 }
     requires offset { offset < 262144 }
-    ensures found { IfOk result (λ found. (r : RecordOf) → SpellsAt (offsets words.now lane) offset r → found ≡ Some r) }
-    ensures only { IfOk result (λ found. IfSome found (λ r. SpellsAt (offsets words.now lane) offset r)) }
+    ensures found { IfOk result (λ found. (r : RecordOf)
+        → SpellsAt (offsets words.now lane) offset r → found ≡ Some r) }
+    ensures only { IfOk result (λ found. IfSome found
+        (λ r. SpellsAt (offsets words.now lane) offset r)) }
 {
     let rest = piece(alloc, words, lane, offset, 1024 - offset % 1024)?;
     match read(alloc, rest.as_slice())? {
@@ -124,7 +128,7 @@ pub(crate) fn log_of(
             None => return Ok(None),
         };
         let next = offset + words_of(&entry) as u32;
-        log.push(Placed { offset, entry }).map_err(|_| OutOfMemory)?;
+        log.push(Placed { offset, entry })?;
         offset = next;
     }
     if offset == len {

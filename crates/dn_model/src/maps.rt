@@ -34,8 +34,9 @@ fn read_logs(alloc: Global, words: &[u64]) -> Result<Vec<List<Placed>>, MapFault
     ensures fault { IfErr result (Says_of (SomeLog words.now)) }
 {
     let mut logs = Vec::new(alloc);
-    logs.push(List::of(Vec::new(alloc)))
-        .map_err(|_| MapFault::OutOfMemory)?;
+    if logs.push(List::of(Vec::new(alloc))).is_err() {
+        return Err(MapFault::OutOfMemory);
+    }
     for lane in 1..64u8 {
         let log = match log_of(alloc, words, lane) {
             Ok(Some(log)) => log,
@@ -99,7 +100,8 @@ fn settle(
     map: &mut PlainMap,
 ) -> Result<(), MapFault>
     requires { AreChains words.now 4096 chains.now }
-    ensures towards { OnOk result (Towards (holds_of words.now logs.now chains.now) map.old map.new) }
+    ensures towards { OnOk result (Towards (holds_of words.now logs.now chains.now) map.old
+        map.new) }
     ensures right { OnOk result (IsRight (holds_of words.now logs.now chains.now) map.new key) }
     ensures fault { IfErr result (Says_of (Stray (holds_of words.now logs.now chains.now))) }
 {
@@ -135,8 +137,10 @@ fn settle_log(
     map: &mut PlainMap,
 ) -> Result<(), MapFault>
     requires { AreChains words.now 4096 chains.now }
-    ensures towards { OnOk result (Towards (holds_of words.now logs.now chains.now) map.old map.new) }
-    ensures right { OnOk result (IsRightFor (holds_of words.now logs.now chains.now) map.new log.now (length log.now)) }
+    ensures towards { OnOk result (Towards (holds_of words.now logs.now chains.now) map.old
+        map.new) }
+    ensures right { OnOk result (IsRightFor (holds_of words.now logs.now chains.now) map.new
+        log.now (length log.now)) }
     ensures fault { IfErr result (Says_of (Stray (holds_of words.now logs.now chains.now))) }
 {
     for placed in log {
@@ -164,8 +168,10 @@ fn settle_logs(
     map: &mut PlainMap,
 ) -> Result<(), MapFault>
     requires { AreChains words.now 4096 chains.now }
-    ensures towards { OnOk result (Towards (holds_of words.now logs.now chains.now) map.old map.new) }
-    ensures right { OnOk result (AreRightFor (holds_of words.now logs.now chains.now) map.new logs.now (length logs.now)) }
+    ensures towards { OnOk result (Towards (holds_of words.now logs.now chains.now) map.old
+        map.new) }
+    ensures right { OnOk result (AreRightFor (holds_of words.now logs.now chains.now) map.new
+        logs.now (length logs.now)) }
     ensures fault { IfErr result (Says_of (Stray (holds_of words.now logs.now chains.now))) }
 {
     for log in logs {
@@ -188,8 +194,10 @@ fn settle_bucket(
 ) -> Result<(), MapFault>
     requires chains { AreChains words.now 4096 chains.now }
     requires number { number < 8192 }
-    ensures towards { OnOk result (Towards (holds_of words.now logs.now chains.now) map.old map.new) }
-    ensures right { OnOk result (IsRightIn words.now (holds_of words.now logs.now chains.now) map.new number 4) }
+    ensures towards { OnOk result (Towards (holds_of words.now logs.now chains.now) map.old
+        map.new) }
+    ensures right { OnOk result (IsRightIn words.now (holds_of words.now logs.now chains.now)
+        map.new number 4) }
     ensures fault { IfErr result (Says_of (Stray (holds_of words.now logs.now chains.now))) }
 {
     for i in 1..4u32 {
@@ -217,8 +225,10 @@ fn settle_buckets(
     map: &mut PlainMap,
 ) -> Result<(), MapFault>
     requires { AreChains words.now 4096 chains.now }
-    ensures towards { OnOk result (Towards (holds_of words.now logs.now chains.now) map.old map.new) }
-    ensures right { OnOk result (IsRightBelow words.now (holds_of words.now logs.now chains.now) map.new 8192) }
+    ensures towards { OnOk result (Towards (holds_of words.now logs.now chains.now) map.old
+        map.new) }
+    ensures right { OnOk result (IsRightBelow words.now (holds_of words.now logs.now chains.now)
+        map.new 8192) }
     ensures fault { IfErr result (Says_of (Stray (holds_of words.now logs.now chains.now))) }
 {
     for number in 0..8192u32 {

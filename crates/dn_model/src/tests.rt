@@ -1,5 +1,5 @@
 use crate::{MapFault, pool_map};
-use dn_word::regions::{bucket_at, cell_at, deed_at, gate_at, mark_at};
+use dn_word::regions::{bucket_at, cell_at, deed_at, directory_at, gate_at, mark_at, segment_at};
 use std::alloc::Global;
 use std::test::Fail;
 
@@ -175,6 +175,212 @@ fn the_index_by_hand(rt: HostRuntime) -> Result<(), Fail> {
         set(&mut words, bucket_at(4096) as usize + 7, last);
         let found = held(rt.alloc(), words.as_slice())?;
         assert_eq!(rt; found.as_slice(), want, "at {next}");
+    }
+    Ok(())
+}
+
+/// The deed of key 5's slot, the gate, mark and log of lane 1 and the log of lane 2, the place that the index has for key 5 (0 for
+/// none), and cell 0.
+#[derive(Clone, Copy)]
+struct Words<'a> {
+    deed: u64,
+    gate: u64,
+    mark: u64,
+    log: &'a [u64],
+    other: &'a [u64],
+    place: u64,
+    cell: u64,
+}
+
+/// Lane 1 has segment 0, and lane 2 segment 1.
+fn pool_of_two(alloc: Global, given: &Words<'_>) -> Result<Vec<u64>, Fail> {
+    let mut words = pool(alloc, given.gate, given.log)?;
+    words.resize(100352, 0)?;
+    set(&mut words, deed_at(3) as usize, given.deed);
+    set(&mut words, mark_at(1) as usize, given.mark);
+    set(&mut words, directory_at(2, 0) as usize, 2);
+    set(&mut words, gate_at(2) as usize, given.other.len() as u64);
+    for (at, word) in given.other.iter().enumerate() {
+        set(
+            &mut words,
+            segment_at(1).saturating_add(at as u32) as usize,
+            *word,
+        );
+    }
+    if given.place != 0 {
+        set(&mut words, bucket_at(222) as usize + 1, 5);
+        set(&mut words, bucket_at(222) as usize + 4, given.place);
+    }
+    set(&mut words, cell_at(0) as usize, given.cell);
+    Ok(words)
+}
+
+#[test]
+fn owners_marks_and_cells_by_hand(rt: HostRuntime) -> Result<(), Fail> {
+    let none: &[u64] = &[];
+    let put = PUT_A.as_slice();
+    let put_b = [0x0100010000000300, 5, 0x62];
+    let loose = [0x0500010000000300, 5, 0x62];
+    let deleted = [0x0100010000000300, 5, 0x61, 0x0200000000000200, 5];
+    let twice = [0x0100010000000300, 5, 0x61, 0x0100010000000300, 5, 0x62];
+    let shared = [
+        0x0100010000000300,
+        5,
+        0x61,
+        0x0300000000000300,
+        5,
+        0x0000000201000000,
+    ];
+    let unshared = [
+        0x0100010000000300,
+        5,
+        0x61,
+        0x0400000000000300,
+        5,
+        0x0000000001000000,
+    ];
+    let emptied = [0x0100010000000300, 5, 0x61, 0x0400000000000300, 5, 0];
+    let first = Words {
+        deed: 0x4000008080000000,
+        gate: 3,
+        mark: 0,
+        log: put,
+        other: none,
+        place: 0,
+        cell: 0,
+    };
+    let of_two = Words {
+        deed: 0x4000010100000000,
+        ..first
+    };
+    let nobodys = Words {
+        deed: 0x0000008000000000,
+        ..first
+    };
+    let of_no_lane = Words {
+        deed: 0x400000a000000000,
+        ..first
+    };
+    let long = Words { gate: 6, ..first };
+    for (name, given, want) in [
+        (
+            "an unmerged delete over an indexed put",
+            Words {
+                gate: 5,
+                mark: 3,
+                log: deleted.as_slice(),
+                place: 0x01000000,
+                ..first
+            },
+            "absent",
+        ),
+        (
+            "a mark between two records",
+            Words {
+                mark: 3,
+                log: twice.as_slice(),
+                place: 0x01000000,
+                ..long
+            },
+            "b",
+        ),
+        (
+            "a mark behind both",
+            Words {
+                mark: 6,
+                log: twice.as_slice(),
+                place: 0x01000000,
+                ..long
+            },
+            "a",
+        ),
+        ("a record of a lane that isn't the owner", of_two, "absent"),
+        (
+            "the owner's own record",
+            Words {
+                other: put_b.as_slice(),
+                ..of_two
+            },
+            "b",
+        ),
+        (
+            "a deed that is Leaving",
+            Words {
+                deed: 0x8000008080000000,
+                ..first
+            },
+            "a",
+        ),
+        (
+            "a deed that is Released",
+            Words {
+                deed: 0xc000008080000000,
+                ..first
+            },
+            "a",
+        ),
+        ("a deed of nobody", nobodys, "absent"),
+        (
+            "a deed of nobody over an index",
+            Words {
+                mark: 3,
+                place: 0x01000000,
+                ..nobodys
+            },
+            "a",
+        ),
+        ("a deed of lane 64", of_no_lane, "absent"),
+        (
+            "a deed of lane 64 over an index",
+            Words {
+                mark: 3,
+                place: 0x01000000,
+                ..of_no_lane
+            },
+            "a",
+        ),
+        (
+            "a cell that leads to another lane",
+            Words {
+                log: shared.as_slice(),
+                other: loose.as_slice(),
+                cell: 0x0000000302000000,
+                ..long
+            },
+            "b",
+        ),
+        (
+            "an index that leads to a share",
+            Words {
+                mark: 6,
+                log: shared.as_slice(),
+                place: 0x01000003,
+                ..long
+            },
+            "a",
+        ),
+        (
+            "an index that leads to an unshare",
+            Words {
+                mark: 6,
+                log: unshared.as_slice(),
+                place: 0x01000003,
+                ..long
+            },
+            "a",
+        ),
+        (
+            "an unshare of nothing",
+            Words {
+                log: emptied.as_slice(),
+                ..long
+            },
+            "absent",
+        ),
+    ] {
+        let words = pool_of_two(rt.alloc(), &given)?;
+        let found = held(rt.alloc(), words.as_slice())?;
+        assert_eq!(rt; found.as_slice(), want.as_bytes(), "at {name}");
     }
     Ok(())
 }

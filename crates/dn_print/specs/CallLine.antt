@@ -4,15 +4,15 @@ use Rattle.dn_word.specs.declared.positions.Position.{Position}
 use Rattle.dn_hist.specs.declared.calls.Reply.{Reply}
 use Rattle.dn_print.specs.declared.call_lines.EventLine.{EventLine}
 use Rattle.dn_print.specs.declared.call_lines.EventLine.TheVariants as event
-use Rattle.dn_print.specs.Piece.{word_text, reply_text}
+use Rattle.dn_print.specs.Piece.{position_text, word_text, reply_text}
 
 -- the call: its session and its number there
 abbrev pub head_text : ℕ → ℕ → List ℕ
-head_text session number = codes "c" ++ decimal session ++ codes " " ++ decimal number ++ codes " "
+head_text session number = codes "c" ++ (decimal session ++ (codes " " ++ (decimal number ++ codes " ")))
 
 -- a position, and the line's end
 abbrev pub end_text : Position → List ℕ
-end_text p = codes " " ++ decimal p.stamp ++ codes "." ++ decimal p.rank ++ codes "." ++ decimal p.session ++ codes "\n"
+end_text p = codes " " ++ (position_text p ++ codes "\n")
 
 -- a call that was made
 abbrev pub made_text : ℕ → ℕ → Reply → Position → List ℕ
@@ -37,11 +37,11 @@ again_text old seen = codes "again " ++ (word_text old ++ (codes " " ++ (word_te
 
 -- no room: how many segments are taken, and how many the lane has
 abbrev pub full_text : ℕ → ℕ → List ℕ
-full_text counter segments = codes "full " ++ decimal counter ++ codes " " ++ decimal segments ++ codes "\n"
+full_text counter segments = codes "full " ++ (decimal counter ++ (codes " " ++ (decimal segments ++ codes "\n")))
 
 -- the stamps are used up: the last one
 abbrev pub worn_text : ℕ → List ℕ
-worn_text stamp = codes "worn " ++ decimal stamp ++ codes "\n"
+worn_text stamp = codes "worn " ++ (decimal stamp ++ codes "\n")
 
 -- what became of an attempt
 abbrev pub event_text : EventLine → List ℕ

@@ -4,19 +4,19 @@ use Rattle.dn_word.specs.declared.positions.Position.{Position}
 use Rattle.dn_hist.specs.declared.calls.Call.{Call}
 use Rattle.dn_hist.specs.declared.calls.Call.TheVariants.{Get, Put, Delete}
 use Rattle.dn_hist.specs.declared.receipts.Receipt.{Receipt}
-use Rattle.dn_print.specs.Piece.{value_text, reply_text}
+use Rattle.dn_print.specs.Piece.{position_text, value_text, reply_text}
 
 -- the line that heads the history
 abbrev pub history_head_text : ℕ → List ℕ
-history_head_text receipts = codes "history " ++ decimal receipts ++ codes "\n"
+history_head_text receipts = codes "history " ++ (decimal receipts ++ codes "\n")
 
 -- a position, and the call's number in its session
 abbrev pub place_text : Position → ℕ → List ℕ
-place_text p number = decimal p.stamp ++ codes "." ++ decimal p.rank ++ codes "." ++ decimal p.session ++ codes " " ++ decimal number ++ codes " "
+place_text p number = position_text p ++ (codes " " ++ (decimal number ++ codes " "))
 
 -- a verb and its key
 abbrev pub verb_text : List ℕ → ℕ → List ℕ
-verb_text verb key = verb ++ codes " " ++ decimal key ++ codes " "
+verb_text verb key = verb ++ (codes " " ++ (decimal key ++ codes " "))
 
 -- a call
 abbrev pub call_text : Call → List ℕ

@@ -1,4 +1,5 @@
 pub mod CallLine
+pub mod Front
 pub mod HistoryLine
 pub mod Piece
 pub mod RefusalLine

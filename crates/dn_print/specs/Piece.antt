@@ -1,9 +1,15 @@
 use Rattle.std.specs.Prelude.{ℕ, ◌++◌, ◌&&◌, Bool, List, codes, nat_le, if◌then◌else◌}
 use Rattle.std.specs.List.{list_all}
 use Rattle.std.specs.Int.{w64, to_be_bytes}
+use Rattle.std.specs.Fmt.{decimal}
 use Rattle.hex.specs.Hex.{encode_lower}
+use Rattle.dn_word.specs.declared.positions.Position.{Position}
 use Rattle.dn_hist.specs.declared.calls.Reply.{Reply}
 use Rattle.dn_hist.specs.declared.calls.Reply.TheVariants.{Value, Absent, Stored, Deleted}
+
+-- a position: stamp, rank and session
+abbrev pub position_text : Position → List ℕ
+position_text p = decimal p.stamp ++ (codes "." ++ (decimal p.rank ++ (codes "." ++ decimal p.session)))
 
 -- `!` to `~`
 abbrev pub is_graphic : ℕ → Bool

@@ -1,6 +1,9 @@
 use Rattle.std.specs.Prelude.{ℕ, ◌++◌, List, codes}
 use Rattle.std.specs.Fmt.{decimal}
+use Rattle.dn_print.specs.declared.summary_lines.CallCounts.{CallCounts}
 use Rattle.dn_print.specs.declared.summary_lines.LaneState.{LaneState}
+use Rattle.dn_print.specs.declared.summary_lines.LaneSummary.{LaneSummary}
+use Rattle.dn_print.specs.declared.summary_lines.WayCounts.{WayCounts}
 use Rattle.dn_print.specs.declared.summary_lines.LaneState.TheVariants.{Live, Fenced, Stopped}
 
 -- the word for a state
@@ -15,25 +18,32 @@ labelled_text label number = label ++ decimal number
 
 -- which lane it is, and its state
 abbrev pub lane_head_text : ℕ → LaneState → List ℕ
-lane_head_text lane state = codes "lane " ++ decimal lane ++ codes " " ++ state_text state
+lane_head_text lane state = codes "lane " ++ (decimal lane ++ (codes " " ++ state_text state))
 
 -- a lane: its number, its state, its last stamp, its log's sealed length and merged mark
-abbrev pub lane_text : ℕ → LaneState → ℕ → ℕ → ℕ → List ℕ
-lane_text lane state stamp len mark =
-    lane_head_text lane state ++ (labelled_text (codes " stamp ") stamp ++ (labelled_text (codes " len ") len ++ (labelled_text (codes " mark ") mark ++ codes "\n")))
+abbrev pub lane_text : LaneSummary → List ℕ
+lane_text of =
+    lane_head_text of.lane of.state ++ (labelled_text (codes " stamp ") of.stamp ++ (labelled_text (codes " len ") of.len
+    ++ (labelled_text (codes " mark ") of.mark ++ codes "\n")))
 
 -- the calls by their ends, and the refused attempts
-abbrev pub calls_text : ℕ → ℕ → ℕ → ℕ → ℕ → List ℕ
-calls_text calls made refused unanswered given =
-    labelled_text (codes "calls ") calls ++ (labelled_text (codes " made ") made ++ (labelled_text (codes " refused ") refused
-    ++ (labelled_text (codes " unanswered ") unanswered ++ (labelled_text (codes " given ") given ++ codes "\n"))))
+abbrev pub calls_text : CallCounts → List ℕ
+calls_text of =
+    labelled_text (codes "calls ") of.calls ++ (labelled_text (codes " made ") of.made ++ (labelled_text (codes " refused ") of.refused
+    ++ (labelled_text (codes " unanswered ") of.unanswered ++ (labelled_text (codes " given ") of.given ++ codes "\n"))))
 
--- the answered gets by the way in which each found its value
-abbrev pub ways_text : ℕ → ℕ → ℕ → ℕ → ℕ → List ℕ
-ways_text value shortcut pending index cell =
-    labelled_text (codes "ways value ") value ++ (labelled_text (codes " shortcut ") shortcut ++ (labelled_text (codes " pending ") pending
-    ++ (labelled_text (codes " index ") index ++ (labelled_text (codes " cell ") cell ++ codes "\n"))))
+-- the answered gets by the way in which each found its value: by the cache, or behind it
+abbrev pub cached_text : WayCounts → List ℕ
+cached_text of = labelled_text (codes "ways value ") of.value ++ labelled_text (codes " shortcut ") of.shortcut
+
+abbrev pub located_text : WayCounts → List ℕ
+located_text of =
+    labelled_text (codes " pending ") of.pending ++ (labelled_text (codes " index ") of.index
+    ++ (labelled_text (codes " cell ") of.cell ++ codes "\n"))
+
+abbrev pub ways_text : WayCounts → List ℕ
+ways_text of = cached_text of ++ located_text of
 
 -- the keys that the history leaves
 abbrev pub map_text : ℕ → List ℕ
-map_text keys = codes "map " ++ decimal keys ++ codes "\n"
+map_text keys = labelled_text (codes "map ") keys ++ codes "\n"

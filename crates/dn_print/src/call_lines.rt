@@ -1,14 +1,12 @@
 //! What became of a call.
 
-ghost use Rattle.std.specs.Prelude.{◌≡◌, ◌++◌, OnOk, OnErr, IfOk};
-ghost use Rattle.dn_print.specs.Piece.{word_text};
+ghost use Rattle.std.specs.Prelude.{◌≡◌, ◌≤◌, ◌++◌, length, OnOk, OnErr};
+ghost use Rattle.dn_print.specs.Front.{KeepsFront};
 ghost use Rattle.dn_print.specs.CallLine.{head_text, end_text, cell_text, not_owner_text, fenced_text, again_text, full_text, worn_text, made_text, event_text};
 
-use crate::pieces::{ROOM, bytes, reply, word};
+use crate::pieces::{bytes, number as digits, position as place, reply, whole, word};
 use dn_hist::Reply;
 use dn_word::{OutOfMemory, Position};
-use std::alloc::Global;
-use std::io::Write;
 
 /// What became of an attempt of a call, by the call's session and its number there. Words are words of the pool.
 #[derive(Clone, Copy, Debug, PartialEq, Eq, Drop)]
@@ -60,141 +58,162 @@ pub enum EventLine {
 }
 
 /// Appends `cS N ` for this session and number.
-fn head(out: &mut Vec<u8>, session: u32, number: u32) -> Result<(), OutOfMemory>
-    ensures { OnOk result (out.new.items ≡ out.old.items ++ head_text session number) }
+#[tactic(auto, using(crate::proofs::FrontLemmas::keeps_on))]
+fn head(out: &mut Vec<u8>, start: usize, session: u32, number: u32) -> Result<(), OutOfMemory>
+    requires { start ≤ length out.old.items }
+    ensures ok { OnOk result (out.new.items ≡ out.old.items ++ head_text session number) }
+    ensures front { KeepsFront start out.old.items out.new.items }
 {
-    match write!(out, "c{session} {number} ") {
-        Ok(()) => Ok(()),
-        Err(_) => Err(OutOfMemory),
-    }
+    bytes(out, start, b"c")?;
+    digits(out, start, session as u64)?;
+    bytes(out, start, b" ")?;
+    digits(out, start, number as u64)?;
+    bytes(out, start, b" ")
 }
 
 /// Appends a position and the line's end.
-fn end(out: &mut Vec<u8>, position: Position) -> Result<(), OutOfMemory>
-    ensures { OnOk result (out.new.items ≡ out.old.items ++ end_text position) }
+#[tactic(auto, using(crate::proofs::FrontLemmas::keeps_on))]
+fn end(out: &mut Vec<u8>, start: usize, position: Position) -> Result<(), OutOfMemory>
+    requires { start ≤ length out.old.items }
+    ensures ok { OnOk result (out.new.items ≡ out.old.items ++ end_text position) }
+    ensures front { KeepsFront start out.old.items out.new.items }
 {
-    let Position {
-        stamp,
-        rank,
-        session,
-    } = position;
-    match write!(out, " {stamp}.{rank}.{session}\n") {
-        Ok(()) => Ok(()),
-        Err(_) => Err(OutOfMemory),
-    }
+    bytes(out, start, b" ")?;
+    place(out, start, position)?;
+    bytes(out, start, b"\n")
 }
 
-/// The line of a call that was made.
+/// Appends the line of a call that was made.
+#[tactic(auto, using(crate::proofs::FrontLemmas::keeps_on))]
 fn made_line(
-    alloc: Global,
+    out: &mut Vec<u8>,
+    start: usize,
     session: u32,
     number: u32,
     answer: &Reply,
     position: Position,
-) -> Result<Vec<u8>, OutOfMemory>
-    ensures { IfOk result (λ line. line.items ≡ made_text session number answer.now position) }
+) -> Result<(), OutOfMemory>
+    requires { start ≤ length out.old.items }
+    ensures ok { OnOk result (out.new.items ≡ out.old.items ++ made_text session number answer.now position) }
+    ensures front { KeepsFront start out.old.items out.new.items }
 {
-    let Ok(mut line) = Vec::with_capacity(alloc, ROOM) else {
-        return Err(OutOfMemory);
-    };
-    head(&mut line, session, number)?;
-    reply(alloc, &mut line, answer)?;
-    end(&mut line, position)?;
-    Ok(line)
+    head(out, start, session, number)?;
+    reply(out, start, answer)?;
+    end(out, start, position)
 }
 
 /// Appends the line of a call that was made: its session, its number there, the reply and the position. Where memory is
 /// wanting, `out` stays.
+#[tactic(auto, using(crate::proofs::FrontLemmas::taken_back))]
 pub fn made(
-    alloc: Global,
     out: &mut Vec<u8>,
     session: u32,
     number: u32,
     reply: &Reply,
     position: Position,
 ) -> Result<(), OutOfMemory>
-    ensures ok { OnOk result (out.new.items ≡ out.old.items ++ made_text session number reply.now position) }
+    ensures ok { OnOk result (out.new.items ≡ out.old.items
+        ++ made_text session number reply.now position) }
     ensures same { OnErr result (out.new.items ≡ out.old.items) }
 {
-    let line = made_line(alloc, session, number, reply, position)?;
-    bytes(out, line.as_slice())
+    let start = out.len();
+    let made = made_line(out, start, session, number, reply, position);
+    whole(out, start, made)
 }
 
 /// Appends the cell's word, or `-`, and the line's end.
-fn cell_end(alloc: Global, out: &mut Vec<u8>, cell: Option<u64>) -> Result<(), OutOfMemory>
-    ensures { OnOk result (out.new.items ≡ out.old.items ++ cell_text cell) }
+#[tactic(auto, using(crate::proofs::FrontLemmas::keeps_on))]
+fn cell_end(out: &mut Vec<u8>, start: usize, cell: Option<u64>) -> Result<(), OutOfMemory>
+    requires { start ≤ length out.old.items }
+    ensures ok { OnOk result (out.new.items ≡ out.old.items ++ cell_text cell) }
+    ensures front { KeepsFront start out.old.items out.new.items }
 {
     match cell {
         Some(seen) => {
-            bytes(out, b" ")?;
-            word(alloc, out, seen)?;
-            bytes(out, b"\n")
+            bytes(out, start, b" ")?;
+            word(out, start, seen)?;
+            bytes(out, start, b"\n")
         }
-        None => bytes(out, b" -\n"),
+        None => bytes(out, start, b" -\n"),
     }
 }
 
 /// Appends that the lane isn't the key's.
+#[tactic(auto, using(crate::proofs::FrontLemmas::keeps_on))]
 fn not_owner(
-    alloc: Global,
     out: &mut Vec<u8>,
+    start: usize,
     look: u64,
     cell: Option<u64>,
 ) -> Result<(), OutOfMemory>
-    ensures { OnOk result (out.new.items ≡ out.old.items ++ not_owner_text look cell) }
+    requires { start ≤ length out.old.items }
+    ensures ok { OnOk result (out.new.items ≡ out.old.items ++ not_owner_text look cell) }
+    ensures front { KeepsFront start out.old.items out.new.items }
 {
-    bytes(out, b"notowner ")?;
-    word(alloc, out, look)?;
-    cell_end(alloc, out, cell)
+    bytes(out, start, b"notowner ")?;
+    word(out, start, look)?;
+    cell_end(out, start, cell)
 }
 
 /// Appends that the gate is fenced.
-fn fenced(alloc: Global, out: &mut Vec<u8>, gate: u64) -> Result<(), OutOfMemory>
-    ensures { OnOk result (out.new.items ≡ out.old.items ++ fenced_text gate) }
+#[tactic(auto, using(crate::proofs::FrontLemmas::keeps_on))]
+fn fenced(out: &mut Vec<u8>, start: usize, gate: u64) -> Result<(), OutOfMemory>
+    requires { start ≤ length out.old.items }
+    ensures ok { OnOk result (out.new.items ≡ out.old.items ++ fenced_text gate) }
+    ensures front { KeepsFront start out.old.items out.new.items }
 {
-    bytes(out, b"fenced ")?;
-    word(alloc, out, gate)?;
-    bytes(out, b"\n")
+    bytes(out, start, b"fenced ")?;
+    word(out, start, gate)?;
+    bytes(out, start, b"\n")
 }
 
 /// Appends that another word was seen.
-fn again(alloc: Global, out: &mut Vec<u8>, old: u64, seen: u64) -> Result<(), OutOfMemory>
-    ensures { OnOk result (out.new.items ≡ out.old.items ++ again_text old seen) }
+#[tactic(auto, using(crate::proofs::FrontLemmas::keeps_on))]
+fn again(out: &mut Vec<u8>, start: usize, old: u64, seen: u64) -> Result<(), OutOfMemory>
+    requires { start ≤ length out.old.items }
+    ensures ok { OnOk result (out.new.items ≡ out.old.items ++ again_text old seen) }
+    ensures front { KeepsFront start out.old.items out.new.items }
 {
-    bytes(out, b"again ")?;
-    word(alloc, out, old)?;
-    bytes(out, b" ")?;
-    word(alloc, out, seen)?;
-    bytes(out, b"\n")
+    bytes(out, start, b"again ")?;
+    word(out, start, old)?;
+    bytes(out, start, b" ")?;
+    word(out, start, seen)?;
+    bytes(out, start, b"\n")
 }
 
 /// Appends that no segment is left.
-fn full(out: &mut Vec<u8>, counter: u64, segments: u32) -> Result<(), OutOfMemory>
-    ensures { OnOk result (out.new.items ≡ out.old.items ++ full_text counter segments) }
+#[tactic(auto, using(crate::proofs::FrontLemmas::keeps_on))]
+fn full(out: &mut Vec<u8>, start: usize, counter: u64, segments: u32) -> Result<(), OutOfMemory>
+    requires { start ≤ length out.old.items }
+    ensures ok { OnOk result (out.new.items ≡ out.old.items ++ full_text counter segments) }
+    ensures front { KeepsFront start out.old.items out.new.items }
 {
-    match write!(out, "full {counter} {segments}\n") {
-        Ok(()) => Ok(()),
-        Err(_) => Err(OutOfMemory),
-    }
+    bytes(out, start, b"full ")?;
+    digits(out, start, counter)?;
+    bytes(out, start, b" ")?;
+    digits(out, start, segments as u64)?;
+    bytes(out, start, b"\n")
 }
 
 /// Appends that the stamps are used up.
-fn worn(out: &mut Vec<u8>, stamp: u32) -> Result<(), OutOfMemory>
-    ensures { OnOk result (out.new.items ≡ out.old.items ++ worn_text stamp) }
+#[tactic(auto, using(crate::proofs::FrontLemmas::keeps_on))]
+fn worn(out: &mut Vec<u8>, start: usize, stamp: u32) -> Result<(), OutOfMemory>
+    requires { start ≤ length out.old.items }
+    ensures ok { OnOk result (out.new.items ≡ out.old.items ++ worn_text stamp) }
+    ensures front { KeepsFront start out.old.items out.new.items }
 {
-    match write!(out, "worn {stamp}\n") {
-        Ok(()) => Ok(()),
-        Err(_) => Err(OutOfMemory),
-    }
+    bytes(out, start, b"worn ")?;
+    digits(out, start, stamp as u64)?;
+    bytes(out, start, b"\n")
 }
 
-/// The line of an attempt.
-fn attempt_line(alloc: Global, line: &EventLine) -> Result<Vec<u8>, OutOfMemory>
-    ensures { IfOk result (λ text. text.items ≡ event_text line.now) }
+/// Appends the line of an attempt.
+#[tactic(auto, using(crate::proofs::FrontLemmas::keeps_on))]
+fn attempt_line(out: &mut Vec<u8>, start: usize, line: &EventLine) -> Result<(), OutOfMemory>
+    requires { start ≤ length out.old.items }
+    ensures ok { OnOk result (out.new.items ≡ out.old.items ++ event_text line.now) }
+    ensures front { KeepsFront start out.old.items out.new.items }
 {
-    let Ok(mut text) = Vec::with_capacity(alloc, ROOM) else {
-        return Err(OutOfMemory);
-    };
     match line {
         EventLine::NotOwner {
             session,
@@ -202,16 +221,16 @@ fn attempt_line(alloc: Global, line: &EventLine) -> Result<Vec<u8>, OutOfMemory>
             look,
             cell,
         } => {
-            head(&mut text, *session, *number)?;
-            not_owner(alloc, &mut text, *look, *cell)?;
+            head(out, start, *session, *number)?;
+            not_owner(out, start, *look, *cell)
         }
         EventLine::Fenced {
             session,
             number,
             word,
         } => {
-            head(&mut text, *session, *number)?;
-            fenced(alloc, &mut text, *word)?;
+            head(out, start, *session, *number)?;
+            fenced(out, start, *word)
         }
         EventLine::Again {
             session,
@@ -219,8 +238,8 @@ fn attempt_line(alloc: Global, line: &EventLine) -> Result<Vec<u8>, OutOfMemory>
             old,
             seen,
         } => {
-            head(&mut text, *session, *number)?;
-            again(alloc, &mut text, *old, *seen)?;
+            head(out, start, *session, *number)?;
+            again(out, start, *old, *seen)
         }
         EventLine::Full {
             session,
@@ -228,34 +247,35 @@ fn attempt_line(alloc: Global, line: &EventLine) -> Result<Vec<u8>, OutOfMemory>
             counter,
             segments,
         } => {
-            head(&mut text, *session, *number)?;
-            full(&mut text, *counter, *segments)?;
+            head(out, start, *session, *number)?;
+            full(out, start, *counter, *segments)
         }
         EventLine::Worn {
             session,
             number,
             stamp,
         } => {
-            head(&mut text, *session, *number)?;
-            worn(&mut text, *stamp)?;
+            head(out, start, *session, *number)?;
+            worn(out, start, *stamp)
         }
         EventLine::Given { session, number } => {
-            head(&mut text, *session, *number)?;
-            bytes(&mut text, b"given\n")?;
+            head(out, start, *session, *number)?;
+            bytes(out, start, b"given\n")
         }
         EventLine::Unanswered { session, number } => {
-            head(&mut text, *session, *number)?;
-            bytes(&mut text, b"unanswered\n")?;
+            head(out, start, *session, *number)?;
+            bytes(out, start, b"unanswered\n")
         }
     }
-    Ok(text)
 }
 
 /// Appends the line of an attempt. Where memory is wanting, `out` stays.
-pub fn event(alloc: Global, out: &mut Vec<u8>, line: &EventLine) -> Result<(), OutOfMemory>
+#[tactic(auto, using(crate::proofs::FrontLemmas::taken_back))]
+pub fn event(out: &mut Vec<u8>, line: &EventLine) -> Result<(), OutOfMemory>
     ensures ok { OnOk result (out.new.items ≡ out.old.items ++ event_text line.now) }
     ensures same { OnErr result (out.new.items ≡ out.old.items) }
 {
-    let text = attempt_line(alloc, line)?;
-    bytes(out, text.as_slice())
+    let start = out.len();
+    let made = attempt_line(out, start, line);
+    whole(out, start, made)
 }

@@ -1,101 +1,125 @@
 //! The history.
 
-ghost use Rattle.std.specs.Prelude.{◌≡◌, ◌++◌, OnOk, OnErr, IfOk};
+ghost use Rattle.std.specs.Prelude.{◌≡◌, ◌≤◌, ◌++◌, length, OnOk, OnErr};
+ghost use Rattle.dn_print.specs.Front.{KeepsFront};
 ghost use Rattle.dn_print.specs.HistoryLine.{place_text, verb_text, call_text, tail_text, history_head_text, history_line_text};
 
-use crate::pieces::{ROOM, bytes, reply, value};
+use crate::pieces::{bytes, number as digits, position as points, reply, value, whole};
 use dn_hist::{Call, Receipt};
 use dn_word::{OutOfMemory, Position};
-use std::alloc::Global;
-use std::io::Write;
+
+/// Appends the line that heads a history.
+#[tactic(auto, using(crate::proofs::FrontLemmas::keeps_on))]
+fn head_line(out: &mut Vec<u8>, start: usize, receipts: u64) -> Result<(), OutOfMemory>
+    requires { start ≤ length out.old.items }
+    ensures ok { OnOk result (out.new.items ≡ out.old.items ++ history_head_text receipts) }
+    ensures front { KeepsFront start out.old.items out.new.items }
+{
+    bytes(out, start, b"history ")?;
+    digits(out, start, receipts)?;
+    bytes(out, start, b"\n")
+}
 
 /// Appends the line that heads a history of so many receipts. Where memory is wanting, `out` stays.
-pub fn history_head(alloc: Global, out: &mut Vec<u8>, receipts: u64) -> Result<(), OutOfMemory>
+#[tactic(auto, using(crate::proofs::FrontLemmas::taken_back))]
+pub fn history_head(out: &mut Vec<u8>, receipts: u64) -> Result<(), OutOfMemory>
     ensures ok { OnOk result (out.new.items ≡ out.old.items ++ history_head_text receipts) }
     ensures same { OnErr result (out.new.items ≡ out.old.items) }
 {
-    match format!(in alloc; "history {receipts}\n") {
-        Ok(line) => bytes(out, line.as_bytes()),
-        Err(_) => Err(OutOfMemory),
-    }
+    let start = out.len();
+    let made = head_line(out, start, receipts);
+    whole(out, start, made)
 }
 
 /// Appends a position and a number.
-fn place(out: &mut Vec<u8>, position: Position, number: u32) -> Result<(), OutOfMemory>
-    ensures { OnOk result (out.new.items ≡ out.old.items ++ place_text position number) }
+#[tactic(auto, using(crate::proofs::FrontLemmas::keeps_on))]
+fn place(
+    out: &mut Vec<u8>,
+    start: usize,
+    position: Position,
+    number: u32,
+) -> Result<(), OutOfMemory>
+    requires { start ≤ length out.old.items }
+    ensures ok { OnOk result (out.new.items ≡ out.old.items ++ place_text position number) }
+    ensures front { KeepsFront start out.old.items out.new.items }
 {
-    let Position {
-        stamp,
-        rank,
-        session,
-    } = position;
-    match write!(out, "{stamp}.{rank}.{session} {number} ") {
-        Ok(()) => Ok(()),
-        Err(_) => Err(OutOfMemory),
-    }
+    points(out, start, position)?;
+    bytes(out, start, b" ")?;
+    digits(out, start, number as u64)?;
+    bytes(out, start, b" ")
 }
 
 /// Appends a verb and a key.
-fn verb(out: &mut Vec<u8>, verb: &str, key: u64) -> Result<(), OutOfMemory>
-    ensures { OnOk result (out.new.items ≡ out.old.items ++ verb_text verb.now key) }
+#[tactic(auto, using(crate::proofs::FrontLemmas::keeps_on))]
+fn verb(out: &mut Vec<u8>, start: usize, verb: &[u8], key: u64) -> Result<(), OutOfMemory>
+    requires { start ≤ length out.old.items }
+    ensures ok { OnOk result (out.new.items ≡ out.old.items ++ verb_text verb.now key) }
+    ensures front { KeepsFront start out.old.items out.new.items }
 {
-    match write!(out, "{verb} {key} ") {
-        Ok(()) => Ok(()),
-        Err(_) => Err(OutOfMemory),
-    }
+    bytes(out, start, verb)?;
+    bytes(out, start, b" ")?;
+    digits(out, start, key)?;
+    bytes(out, start, b" ")
 }
 
 /// Appends a call.
-fn call(alloc: Global, out: &mut Vec<u8>, call: &Call) -> Result<(), OutOfMemory>
-    ensures { OnOk result (out.new.items ≡ out.old.items ++ call_text call.now) }
+#[tactic(auto, using(crate::proofs::FrontLemmas::keeps_on))]
+fn call(out: &mut Vec<u8>, start: usize, call: &Call) -> Result<(), OutOfMemory>
+    requires { start ≤ length out.old.items }
+    ensures ok { OnOk result (out.new.items ≡ out.old.items ++ call_text call.now) }
+    ensures front { KeepsFront start out.old.items out.new.items }
 {
     match call {
-        Call::Get { key } => verb(out, "get", *key),
+        Call::Get { key } => verb(out, start, b"get", *key),
         Call::Put { key, value: given } => {
-            verb(out, "put", *key)?;
-            value(alloc, out, given.as_bytes())?;
-            bytes(out, b" ")
+            verb(out, start, b"put", *key)?;
+            value(out, start, given.as_bytes())?;
+            bytes(out, start, b" ")
         }
-        Call::Delete { key } => verb(out, "del", *key),
+        Call::Delete { key } => verb(out, start, b"del", *key),
     }
 }
 
 /// Appends the line's end.
-fn tail(out: &mut Vec<u8>, answered: bool) -> Result<(), OutOfMemory>
-    ensures { OnOk result (out.new.items ≡ out.old.items ++ tail_text answered) }
+#[tactic(auto, using(crate::proofs::FrontLemmas::keeps_on))]
+fn tail(out: &mut Vec<u8>, start: usize, answered: bool) -> Result<(), OutOfMemory>
+    requires { start ≤ length out.old.items }
+    ensures ok { OnOk result (out.new.items ≡ out.old.items ++ tail_text answered) }
+    ensures front { KeepsFront start out.old.items out.new.items }
 {
     if answered {
-        bytes(out, b"\n")
+        bytes(out, start, b"\n")
     } else {
-        bytes(out, b" unanswered\n")
+        bytes(out, start, b" unanswered\n")
     }
 }
 
-/// The line of a receipt.
-fn receipt_line(alloc: Global, receipt: &Receipt, answered: bool) -> Result<Vec<u8>, OutOfMemory>
-    ensures { IfOk result (λ line. line.items ≡ history_line_text receipt.now answered) }
+/// Appends the line of a receipt.
+#[tactic(auto, using(crate::proofs::FrontLemmas::keeps_on))]
+fn receipt_line(
+    out: &mut Vec<u8>,
+    start: usize,
+    receipt: &Receipt,
+    answered: bool,
+) -> Result<(), OutOfMemory>
+    requires { start ≤ length out.old.items }
+    ensures ok { OnOk result (out.new.items ≡ out.old.items ++ history_line_text receipt.now answered) }
+    ensures front { KeepsFront start out.old.items out.new.items }
 {
-    let Ok(mut line) = Vec::with_capacity(alloc, ROOM) else {
-        return Err(OutOfMemory);
-    };
-    place(&mut line, receipt.position, receipt.number)?;
-    call(alloc, &mut line, &receipt.call)?;
-    reply(alloc, &mut line, &receipt.reply)?;
-    tail(&mut line, answered)?;
-    Ok(line)
+    place(out, start, receipt.position, receipt.number)?;
+    call(out, start, &receipt.call)?;
+    reply(out, start, &receipt.reply)?;
+    tail(out, start, answered)
 }
 
 /// Appends the line of a receipt: its position, its number, the call and the reply, and whether the call has no answer.
 /// Where memory is wanting, `out` stays.
-pub fn history_line(
-    alloc: Global,
-    out: &mut Vec<u8>,
-    receipt: &Receipt,
-    answered: bool,
-) -> Result<(), OutOfMemory>
+#[tactic(auto, using(crate::proofs::FrontLemmas::taken_back))]
+pub fn history_line(out: &mut Vec<u8>, receipt: &Receipt, answered: bool) -> Result<(), OutOfMemory>
     ensures ok { OnOk result (out.new.items ≡ out.old.items ++ history_line_text receipt.now answered) }
     ensures same { OnErr result (out.new.items ≡ out.old.items) }
 {
-    let line = receipt_line(alloc, receipt, answered)?;
-    bytes(out, line.as_slice())
+    let start = out.len();
+    let made = receipt_line(out, start, receipt, answered);
+    whole(out, start, made)
 }

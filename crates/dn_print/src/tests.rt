@@ -24,11 +24,11 @@ fn found(alloc: Global, bytes: &[u8]) -> Result<Reply, Fail> {
 fn made_lines(alloc: Global, out: &mut Vec<u8>) -> Result<(), Fail> {
     for bytes in [b"!~".as_slice(), b"".as_slice(), b"a \x7f\xff".as_slice()] {
         let reply = found(alloc, bytes)?;
-        done(made(alloc, out, 3, 12, &reply, PLACE))?;
+        done(made(out, 3, 12, &reply, PLACE))?;
     }
-    done(made(alloc, out, 3, 13, &Reply::Absent, PLACE))?;
-    done(made(alloc, out, 3, 14, &Reply::Stored, PLACE))?;
-    done(made(alloc, out, 3, 15, &Reply::Deleted, PLACE))
+    done(made(out, 3, 13, &Reply::Absent, PLACE))?;
+    done(made(out, 3, 14, &Reply::Stored, PLACE))?;
+    done(made(out, 3, 15, &Reply::Deleted, PLACE))
 }
 
 /// Turns want of memory into a failed test.
@@ -65,7 +65,7 @@ fn attempts_that_were_refused(rt: HostRuntime) -> Result<(), Fail> {
             look,
             cell,
         };
-        done(event(alloc, &mut out, &line))?;
+        done(event(&mut out, &line))?;
     }
     for line in [
         EventLine::Fenced {
@@ -93,7 +93,7 @@ fn attempts_that_were_refused(rt: HostRuntime) -> Result<(), Fail> {
         EventLine::Given { session, number },
         EventLine::Unanswered { session, number },
     ] {
-        done(event(alloc, &mut out, &line))?;
+        done(event(&mut out, &line))?;
     }
     let lines =
         "c2 9 notowner 0123456789abcdef -\nc2 9 notowner 0000000000000001 fe00000000000000\nc2 9 fenced 000000000000000a\nc2 9 again 0000000000000001 0000000000000002\nc2 9 full 18446744073709551615 8192\nc2 9 worn 2147483647\nc2 9 given\nc2 9 unanswered\n";
@@ -116,23 +116,23 @@ fn receipt(call: Call, reply: Reply) -> Receipt {
 fn a_history(rt: HostRuntime) -> Result<(), Fail> {
     let alloc = rt.alloc();
     let mut out = Vec::new(alloc);
-    done(history_head(alloc, &mut out, 4))?;
+    done(history_head(&mut out, 4))?;
     let Ok(value) = Value::from_bytes(alloc, b"ab") else {
         return Err(Fail::new("no value"));
     };
     let put = receipt(Call::Put { key: 5, value }, Reply::Stored);
-    done(history_line(alloc, &mut out, &put, true))?;
+    done(history_line(&mut out, &put, true))?;
     let get = receipt(
         Call::Get {
             key: 18446744073709551615,
         },
         found(alloc, b"ab")?,
     );
-    done(history_line(alloc, &mut out, &get, true))?;
+    done(history_line(&mut out, &get, true))?;
     let absent = receipt(Call::Get { key: 6 }, Reply::Absent);
-    done(history_line(alloc, &mut out, &absent, true))?;
+    done(history_line(&mut out, &absent, true))?;
     let delete = receipt(Call::Delete { key: 5 }, Reply::Deleted);
-    done(history_line(alloc, &mut out, &delete, false))?;
+    done(history_line(&mut out, &delete, false))?;
     let lines =
         "history 4\n7.2.3 12 put 5 =ab stored\n7.2.3 12 get 18446744073709551615 =ab\n7.2.3 12 get 6 absent\n7.2.3 12 del 5 deleted unanswered\n";
     assert_eq!(rt; out.as_slice(), lines.as_bytes());
@@ -143,12 +143,12 @@ fn a_history(rt: HostRuntime) -> Result<(), Fail> {
 fn a_summary(rt: HostRuntime) -> Result<(), Fail> {
     let alloc = rt.alloc();
     let mut out = Vec::new(alloc);
-    done(lane_line(alloc, &mut out, 1, LaneState::Live, 8, 1154, 0))?;
-    done(lane_line(alloc, &mut out, 2, LaneState::Fenced, 0, 0, 0))?;
-    done(lane_line(alloc, &mut out, 63, LaneState::Stopped, 0, 3, 2))?;
-    done(calls_line(alloc, &mut out, 5, 2, 4, 1, 2))?;
-    done(ways_line(alloc, &mut out, 1, 2, 3, 4, 5))?;
-    done(map_line(alloc, &mut out, 8))?;
+    done(lane_line(&mut out, 1, LaneState::Live, 8, 1154, 0))?;
+    done(lane_line(&mut out, 2, LaneState::Fenced, 0, 0, 0))?;
+    done(lane_line(&mut out, 63, LaneState::Stopped, 0, 3, 2))?;
+    done(calls_line(&mut out, 5, 2, 4, 1, 2))?;
+    done(ways_line(&mut out, 1, 2, 3, 4, 5))?;
+    done(map_line(&mut out, 8))?;
     let lines =
         "lane 1 live stamp 8 len 1154 mark 0\nlane 2 fenced stamp 0 len 0 mark 0\nlane 63 stopped stamp 0 len 3 mark 2\ncalls 5 made 2 refused 4 unanswered 1 given 2\nways value 1 shortcut 2 pending 3 index 4 cell 5\nmap 8\n";
     assert_eq!(rt; out.as_slice(), lines.as_bytes());
@@ -159,7 +159,7 @@ fn a_summary(rt: HostRuntime) -> Result<(), Fail> {
 fn refusals(rt: HostRuntime) -> Result<(), Fail> {
     let alloc = rt.alloc();
     let mut out = Vec::new(alloc);
-    done(bad_line(alloc, &mut out, 3, "verb"))?;
+    done(bad_line(&mut out, 3, "verb"))?;
     done(bad_words(&mut out))?;
     assert_eq!(rt; out.as_slice(), b"line 3: verb\nbad words\n".as_slice());
     Ok(())

@@ -13,7 +13,8 @@ use dn_word::{Cell, Ref, ValueRoom};
 pub(crate) fn seen(head: &Head, words: &[u64], room: &mut ValueRoom) -> Option<Seen>
     requires { IsHead head.now }
     ensures record { result ≡ seen_in head.now words.now }
-    ensures room { room.new ≡ (if is_some result then held_in head.now words.now room.old else room.old) }
+    ensures room { room.new ≡ (if is_some result then held_in head.now words.now room.old else
+        room.old) }
 {
     match *head {
         Head::Put { bytes } => Some(Seen::Put {

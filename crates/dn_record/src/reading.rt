@@ -23,7 +23,8 @@ pub fn look(words: &[u64], room: &mut ValueRoom) -> Option<Seen>
 
 /// The record that a front of the words spells: Ok of None exactly where no front spells one.
 pub fn read(alloc: Global, words: &[u64]) -> Result<Option<Record>, OutOfMemory>
-    ensures record { IfOk result (λ found. (r : Record) → FrontSpells words.now r → found ≡ Some r) }
+    ensures record { IfOk result (λ found. (r : Record) → FrontSpells words.now r
+        → found ≡ Some r) }
     ensures only { IfOk result (λ found. IfSome found (λ r. FrontSpells words.now r)) }
 {
     let mut room = ValueRoom::new(alloc)?;

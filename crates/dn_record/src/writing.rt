@@ -36,7 +36,8 @@ pub fn write(rec: &Record, out: &mut [u64]) -> usize
 /// `out` stays.
 pub fn write_put(key: u64, value: &Value, out: &mut [u64]) -> usize
     requires room { 2 + words_for (length value.now) ≤ length out.old }
-    ensures words { out.new ≡ spelling (Record.Put key value.now) ++ drop (2 + words_for (length value.now)) out.old }
+    ensures words { out.new ≡ spelling (Record.Put key value.now)
+        ++ drop (2 + words_for (length value.now)) out.old }
     ensures length { result ≡ 2 + words_for (length value.now) }
     ensures value { IsValue value.now }
 {
@@ -73,7 +74,8 @@ fn write_three(head: u64, key: u64, third: u64, out: &mut [u64]) -> usize
 
 fn write_valued(head: u64, key: u64, value: &Value, out: &mut [u64]) -> usize
     requires { 2 + words_for (length value.now) ≤ length out.old }
-    ensures words { out.new ≡ head ∷ key ∷ value_words value.now ++ drop (2 + words_for (length value.now)) out.old }
+    ensures words { out.new ≡ head ∷ key ∷ value_words value.now
+        ++ drop (2 + words_for (length value.now)) out.old }
     ensures length { result ≡ 2 + words_for (length value.now) }
     ensures value { IsValue value.now }
 {

@@ -7,3 +7,4 @@ pub mod Need
 pub mod Hash
 pub mod Bytes
 pub mod Format
+pub mod Regions

@@ -24,5 +24,5 @@ pub use packed::header::Header;
 pub use packed::place::Ref;
 pub use positions::{MAX_RANK, Need, Position};
 pub use rooms::ValueRoom;
-pub use slots::{bucket_of, hash, slot_of};
+pub use slots::{bucket_of, fnv1a, hash, slot_of};
 pub use values::{MAX_BYTES, OutOfMemory, Value, ValueFault};

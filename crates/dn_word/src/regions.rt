@@ -1,6 +1,7 @@
 //! Where each kind of word stands in the pool. Places are numbers of words.
 
-ghost use Rattle.std.specs.Prelude.{◌≡◌, ◌<◌, ◌≤◌, ◌+◌, ◌*◌, ◌^◌};
+ghost use Rattle.std.specs.Prelude.{◌≡◌, ◌<◌};
+ghost use Rattle.dn_word.specs.Regions as place;
 
 /// The most lanes; they are numbered from 1.
 pub const LANES: u8 = 63;
@@ -38,7 +39,7 @@ pub const SEGMENTS_AT: u32 = 98304;
 /// The word of a lane's gate.
 pub fn gate_at(lane: u8) -> u32
     requires { lane < 64 }
-    ensures { result ≡ 64 + lane }
+    ensures { result ≡ place.gate_at lane }
 {
     64 + lane as u32
 }
@@ -46,7 +47,7 @@ pub fn gate_at(lane: u8) -> u32
 /// The word of a lane's merged mark: how many words of its log are merged into the index.
 pub fn mark_at(lane: u8) -> u32
     requires { lane < 64 }
-    ensures { result ≡ 128 + lane }
+    ensures { result ≡ place.mark_at lane }
 {
     128 + lane as u32
 }
@@ -54,21 +55,21 @@ pub fn mark_at(lane: u8) -> u32
 /// The word of a slot's deed.
 pub fn deed_at(slot: u8) -> u32
     requires { slot < 64 }
-    ensures { result ≡ 192 + slot }
+    ensures { result ≡ place.deed_at slot }
 {
     192 + slot as u32
 }
 
 /// The word of a cell.
 pub fn cell_at(cell: u8) -> u32
-    ensures { result ≡ 256 + cell }
+    ensures { result ≡ place.cell_at cell }
 {
     256 + cell as u32
 }
 
 /// The word with the key of a cell.
 pub fn cell_key_at(cell: u8) -> u32
-    ensures { result ≡ 512 + cell }
+    ensures { result ≡ place.cell_key_at cell }
 {
     512 + cell as u32
 }
@@ -78,7 +79,7 @@ pub fn cell_key_at(cell: u8) -> u32
 pub fn directory_at(lane: u8, segment: u32) -> u32
     requires lane { lane < 64 }
     requires segment { segment < 256 }
-    ensures { result ≡ 1024 + 256 * lane + segment }
+    ensures { result ≡ place.directory_at lane segment }
 {
     1024 + 256 * lane as u32 + segment
 }
@@ -88,7 +89,7 @@ pub fn directory_at(lane: u8, segment: u32) -> u32
 /// bucket of the chain, or 0.
 pub fn bucket_at(bucket: u32) -> u32
     requires { bucket < 8192 }
-    ensures { result ≡ 32768 + 8 * bucket }
+    ensures { result ≡ place.bucket_at bucket 0 }
 {
     32768 + 8 * bucket
 }
@@ -96,7 +97,7 @@ pub fn bucket_at(bucket: u32) -> u32
 /// The first word of a segment.
 pub fn segment_at(segment: u32) -> u32
     requires { segment < 8192 }
-    ensures { result ≡ 98304 + 1024 * segment }
+    ensures { result ≡ place.segment_at segment }
 {
-    98304 + 1024 * segment
+    SEGMENTS_AT + SEGMENT_WORDS * segment
 }

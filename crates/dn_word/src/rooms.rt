@@ -26,7 +26,7 @@ impl ValueRoom {
     pub fn new(alloc: Global) -> Result<ValueRoom, OutOfMemory>
         ensures { IfOk result (λ room. room ≡ []) }
     {
-        let bytes = Vec::with_capacity(alloc, MAX_BYTES).map_err(|_| OutOfMemory)?;
+        let bytes = Vec::with_capacity(alloc, MAX_BYTES)?;
         Ok(ValueRoom { bytes })
     }
 
@@ -64,11 +64,12 @@ impl ValueRoom {
         self.bytes.as_slice()
     }
 
-    /// The value with the bytes that the room has.
+    /// The value with the bytes that the room has. It keeps no room beyond them.
     pub fn into_value(self) -> Value
         ensures { result ≡ self }
     {
-        let ValueRoom { bytes } = self;
+        let ValueRoom { mut bytes } = self;
+        bytes.shrink_to_fit();
         Value::of(bytes)
     }
 }

@@ -1,7 +1,7 @@
 use crate::regions::{cell_at, deed_at, directory_at, gate_at, segment_at};
 use crate::{
     Cell, Deed, DeedState, Format, Gate, Header, List, MAX_STAMP, Need, Position, Ref, Value,
-    ValueFault, ValueRoom, bucket_of, hash, slot_of,
+    ValueFault, ValueRoom, bucket_of, fnv1a, hash, slot_of,
 };
 use std::test::Fail;
 
@@ -22,6 +22,9 @@ fn hashes_of_keys(rt: HostRuntime) {
         assert_eq!(rt; slot_of(key), slot, "at {key}");
         assert_eq!(rt; bucket_of(key), bucket, "at {key}");
     }
+    assert_eq!(rt; fnv1a(b""), 0xcbf29ce484222325);
+    assert_eq!(rt; fnv1a(b"a"), 0xaf63dc4c8601ec8c);
+    assert_eq!(rt; fnv1a(b"foobar"), 0x85944171f73967e8);
 }
 
 #[test]

@@ -1,6 +1,6 @@
 ghost use Rattle.std.specs.Prelude.{◌≡◌, ◌<◌, ◌≤◌, length, IfOk, vec_len, IsErrOf, IsOkUnless};
 
-use std::alloc::{AllocError, Global};
+use std::alloc::{AllocError, AllocFailed, Global};
 use std::marker::Model;
 use thiserror::Error;
 
@@ -8,6 +8,18 @@ use thiserror::Error;
 #[derive(Clone, Copy, Debug, PartialEq, Eq, Drop, Error)]
 #[error("out of memory")]
 pub struct OutOfMemory;
+
+impl From<AllocError> for OutOfMemory {
+    fn from(_: AllocError) -> OutOfMemory {
+        OutOfMemory
+    }
+}
+
+impl<T: Drop> From<AllocFailed<T>> for OutOfMemory {
+    fn from(_: AllocFailed<T>) -> OutOfMemory {
+        OutOfMemory
+    }
+}
 
 /// Why no value was made of bytes.
 #[derive(Debug, Drop, Error)]
@@ -18,6 +30,16 @@ pub enum ValueFault {
     /// Want of memory.
     #[error("out of memory")]
     OutOfMemory,
+}
+
+impl From<AllocError> for ValueFault {
+    ghost use Rattle.dn_word.specs.declared.values.ValueFault.TheVariants as fault;
+
+    ghost from_gives = { λ _ e. e ≡ fault.OutOfMemory };
+
+    fn from(_: AllocError) -> ValueFault {
+        ValueFault::OutOfMemory
+    }
 }
 
 /// The most bytes of a value.
@@ -44,7 +66,8 @@ impl Value {
     /// is wanting.
     pub fn from_bytes(alloc: Global, bytes: &[u8]) -> Result<Value, ValueFault>
         ensures ok { IfOk result (λ value. value ≡ bytes.now) }
-        ensures long { 1024 < length bytes.now → IsErrOf result (ValueFault.Long (length bytes.now)) }
+        ensures long { 1024 < length bytes.now
+            → IsErrOf result (ValueFault.Long (length bytes.now)) }
         ensures short { length bytes.now ≤ 1024 → IsOkUnless result ValueFault.OutOfMemory }
     {
         if bytes.len() > MAX_BYTES {
@@ -52,7 +75,7 @@ impl Value {
                 bytes: bytes.len() as u64,
             });
         }
-        let bytes = Vec::from_slice(alloc, bytes).map_err(|_| ValueFault::OutOfMemory)?;
+        let bytes = Vec::from_slice(alloc, bytes)?;
         Ok(Value { bytes })
     }
 
@@ -68,7 +91,7 @@ impl Value {
     pub fn copy(&self, alloc: Global) -> Result<Value, OutOfMemory>
         ensures { IfOk result (λ value. value ≡ self.now) }
     {
-        let bytes = Vec::from_slice(alloc, self.bytes.as_slice()).map_err(|_| OutOfMemory)?;
+        let bytes = Vec::from_slice(alloc, self.bytes.as_slice())?;
         Ok(Value { bytes })
     }
 

@@ -31,9 +31,9 @@ use Rattle.dn_world.proofs.SameRuns.{bare, bares, bare_way, bare_end, bare_all, 
 -- the event lines, the lines of the history and how many, the gate's stamp, length and mark, and what is counted
 abbrev sheet : List ℕ → List ℕ → ℕ → ℕ → ℕ → ℕ → ℕ → ℕ → ℕ → ℕ → ℕ → ℕ → List ℕ
 sheet events lines stands stamp sealed merged calls made given pending index keys =
-    events ++ ((history_head_text stands ++ lines) ++ (lane_text 1 Live stamp sealed merged
-    ++ (calls_text calls made given 0 given
-    ++ (ways_text 0 0 pending index 0
+    events ++ ((history_head_text stands ++ lines) ++ (lane_text (record { lane = 1; state = Live; stamp = stamp; len = sealed; mark = merged })
+    ++ (calls_text (record { calls = calls; made = made; refused = given; unanswered = 0; given = given })
+    ++ (ways_text (record { value = 0; shortcut = 0; pending = pending; index = index; cell = 0 })
     ++ map_text keys))))
 
 -- the gate behind these receipts

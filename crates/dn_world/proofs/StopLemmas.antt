@@ -6,9 +6,12 @@ use Rattle.std.specs.FinMap.{empty}
 use Rattle.std.specs.Ordering.{is_lt, ordering_reverse}
 use Rattle.dn_word.specs.declared.positions.Position.{Position}
 use Rattle.dn_act.specs.Words.{IsZeros}
+use Rattle.dn_hist.specs.Calls.{Bytes, map_after, IsWrite}
 use Rattle.dn_hist.specs.CallersOrder.{IsBefore, IsInCallersOrder}
 use Rattle.dn_hist.specs.Receipt.{position_cmp, IsInOrder}
+use Rattle.dn_hist.specs.Replay.{map_from, map_left}
 use Rattle.dn_hist.specs.declared.calls.Call.{Call as CallOf}
+use Rattle.dn_hist.specs.declared.calls.Call.TheVariants.{Get, Put, Delete}
 use Rattle.dn_hist.specs.declared.receipts.Receipt.{Receipt}
 use Rattle.dn_model.specs.PoolMap.{HoldsMap}
 use Rattle.dn_model.specs.Regions.{gate}
@@ -83,29 +86,54 @@ still_left words now w ended h same = subst (λ ws. IsLeft w.lane.log.pool ws en
 -- and one call more that was made
 made_left : (words now : List ℕ) (w : WorldState) (l : LaneState) (ended : List Ended) (call : CallOf) (receipt : Receipt) (way : Way) (stamp : ℕ) → IsWorld words w ended
     → l.log.lane ≡ 1 → l.log.pool ≡ w.lane.log.pool → stamp ≡ w.last.stamp → IsMade (first_work (view_of 1 (length ended + 1) w.last) call) stamp now l (receipts_of ended) receipt way
-    → IsLeftWith w.lane.log.pool now ended call
+    → IsLeft w.lane.log.pool now (ended ++ made_call (length ended + 1) call receipt way ∷ [])
 made_left words now w l ended call receipt way stamp h lane pool is a =
     let e : Ended = made_call (length ended + 1) call receipt way in
     let more : receipts_of ended ++ receipt ∷ [] ≡ receipts_of (ended ++ e ∷ []) = sym (receipts_push ended e) in
     let next : IsNext (last_position (first_of 1) (receipts_of ended)) receipt =
     subst (λ p. IsNext p receipt) h.last (made_stands now w l (receipts_of ended) (length ended + 1) call receipt way stamp is h.session a) in
+    left_by now l w.lane.log.pool (ended ++ e ∷ []) (subst (IsSound now l) more a.sound)
+    (All-push HasItsReceipt ended e h.own (a.receipt_is.call, a.receipt_is.number, a.receipt_is.session))
+    (ended_push w.lane.log.pool [] ended e h.ends (made_ends words now w l ended (length ended + 1) call receipt way stamp lane pool a))
+    (subst (ArePlaced (first_of 1)) more (placed_push (first_of 1) (receipts_of ended) receipt h.stand next))
+    (subst IsInCallersOrder more (order_push (receipts_of ended) receipt (length ended) w.last h.rises h.told a.receipt_is.number a.receipt_is.later))
+
+-- a put or delete that was made stands; a get that was made leaves the map as it was, and doesn't
+map_push : (m : Bytes) (rs : List Receipt) (r : Receipt) → map_from m (rs ++ r ∷ []) ≡ map_after r.call (map_from m rs)
+map_push m [] r = refl
+map_push m (q ∷ qs) r = map_push (map_after q.call m) qs r
+
+read_left : (words now : List ℕ) (w : WorldState) (ended : List Ended) (key : ℕ) (receipt : Receipt) (way : Way) → IsWorld words w ended → receipt.call ≡ Get key
+    → IsLeft w.lane.log.pool now (ended ++ made_call (length ended + 1) (Get key) receipt way ∷ []) → IsLeft w.lane.log.pool now ended
+read_left words now w ended key receipt way h of left =
+    let same : map_left (receipts_of (ended ++ made_call (length ended + 1) (Get key) receipt way ∷ [])) ≡ map_left (receipts_of ended) =
+    ap map_left (receipts_push ended (made_call (length ended + 1) (Get key) receipt way)) ∙ map_push empty (receipts_of ended) receipt ∙ ap (λ c. map_after c (map_left (receipts_of ended))) of in
     record {
-      how = e;
-      session = refl;
-      number = refl;
-      of = refl;
-      left = left_by now l w.lane.log.pool (ended ++ e ∷ []) (subst (IsSound now l) more a.sound)
-          (All-push HasItsReceipt ended e h.own (a.receipt_is.call, a.receipt_is.number, a.receipt_is.session))
-          (ended_push w.lane.log.pool [] ended e h.ends (made_ends words now w l ended (length ended + 1) call receipt way stamp lane pool a))
-          (subst (ArePlaced (first_of 1)) more (placed_push (first_of 1) (receipts_of ended) receipt h.stand next))
-          (subst IsInCallersOrder more (order_push (receipts_of ended) receipt (length ended) w.last h.rises h.told a.receipt_is.number a.receipt_is.later));
+      own = h.own;
+      ends = h.ends;
+      stand = h.stand;
+      rises = h.rises;
+      legal = (world_left words words w w.lane ended h h.sound).legal;
+      holds = subst (HoldsMap now) same left.holds;
     }
+
+left_with : (pool : ℕ) (now : List ℕ) (ended : List Ended) (call : CallOf) (receipt : Receipt) (way : Way) → IsWrite call
+    → IsLeft pool now (ended ++ made_call (length ended + 1) call receipt way ∷ []) → IsLeftWith pool now ended call
+left_with pool now ended call receipt way w left =
+    record { how = made_call (length ended + 1) call receipt way; session = refl; number = refl; of = refl; write = w; left = left }
+
+made_by : (words now : List ℕ) (w : WorldState) (ended : List Ended) (call : CallOf) (receipt : Receipt) (way : Way) → IsWorld words w ended → receipt.call ≡ call
+    → IsLeft w.lane.log.pool now (ended ++ made_call (length ended + 1) call receipt way ∷ []) → IsLeft w.lane.log.pool now ended ⊎ IsLeftWith w.lane.log.pool now ended call
+made_by words now w ended (Get key) receipt way h of left = inl (read_left words now w ended key receipt way h of left)
+made_by words now w ended (Put key value) receipt way h of left = inr (left_with w.lane.log.pool now ended (Put key value) receipt way tt left)
+made_by words now w ended (Delete key) receipt way h of left = inr (left_with w.lane.log.pool now ended (Delete key) receipt way tt left)
 
 -- ---- a call that was stopped
 answer_left : (words now : List ℕ) (w : WorldState) (l : LaneState) (ended : List Ended) (call : CallOf) (stamp : ℕ) (a : Answer) → IsWorld words w ended → l.log.lane ≡ 1 → l.log.pool ≡ w.lane.log.pool
     → stamp ≡ w.last.stamp → Answers (first_work (view_of 1 (length ended + 1) w.last) call) stamp now l (receipts_of ended) a
     → IsLeft w.lane.log.pool now ended ⊎ IsLeftWith w.lane.log.pool now ended call
-answer_left words now w l ended call stamp (answer.Made receipt way) h lane pool is a = inr (made_left words now w l ended call receipt way stamp h lane pool is a)
+answer_left words now w l ended call stamp (answer.Made receipt way) h lane pool is a =
+    made_by words now w ended call receipt way h a.receipt_is.call (made_left words now w l ended call receipt way stamp h lane pool is a)
 answer_left words now w l ended call stamp (answer.Full counter segments) h lane pool is a = inl (world_left words now w l ended h a.sound)
 answer_left words now w l ended call stamp (answer.NotOwner look cell) h lane pool is a = absurd a
 answer_left words now w l ended call stamp (answer.Fenced word) h lane pool is a = absurd a

@@ -79,9 +79,9 @@ index_in es = total index_by es
 -- the lane's line, the calls, the ways of the answered gets, and the number of keys that the history leaves
 abbrev pub summary_text : List Ended → List Receipt → List ℕ → List ℕ
 summary_text ended history words =
-    lane_text 1 Live (gate words 1).stamp (gate words 1).len (mark words 1)
-    ++ (calls_text (length ended) (length (receipts_of ended)) (given_in ended) 0 (given_in ended)
-    ++ (ways_text 0 0 (pending_in ended) (index_in ended) 0
+    lane_text (record { lane = 1; state = Live; stamp = (gate words 1).stamp; len = (gate words 1).len; mark = mark words 1 })
+    ++ (calls_text (record { calls = length ended; made = length (receipts_of ended); refused = given_in ended; unanswered = 0; given = given_in ended })
+    ++ (ways_text (record { value = 0; shortcut = 0; pending = pending_in ended; index = index_in ended; cell = 0 })
     ++ map_text (len (map_left history))))
 
 abbrev pub output_of : List Ended → List Receipt → List ℕ → List ℕ

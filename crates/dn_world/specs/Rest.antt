@@ -17,9 +17,9 @@ use Rattle.dn_world.specs.State.{WorldState}
 -- the summary of these counts, a history and the words of a lane
 abbrev pub counts_text : Counts → List Receipt → ℕ → Gate → ℕ → List ℕ
 counts_text c history lane g m =
-    lane_text lane Live g.stamp g.len m
-    ++ (calls_text c.calls c.made c.given 0 c.given
-    ++ (ways_text 0 0 c.pending c.index 0
+    lane_text (record { lane = lane; state = Live; stamp = g.stamp; len = g.len; mark = m })
+    ++ (calls_text (record { calls = c.calls; made = c.made; refused = c.given; unanswered = 0; given = c.given })
+    ++ (ways_text (record { value = 0; shortcut = 0; pending = c.pending; index = c.index; cell = 0 })
     ++ map_text (len (map_left history))))
 
 -- The world's history was put in order and printed, and its summary.

@@ -1,37 +1,23 @@
 //! The history and the summary of a play, and the map that the history leaves.
 
 ghost use Rattle.std.specs.Prelude.{◌≡◌, ◌++◌, OnOk, IfOk};
-ghost use Rattle.dn_hist.specs.Calls.{map_after};
 ghost use Rattle.dn_hist.specs.Replay.{map_left as map_left_by};
-ghost use Rattle.std.specs.FinMap as map;
 ghost use Rattle.dn_world.specs.Output.{history_text};
 ghost use Rattle.dn_world.specs.Rest.{counts_text};
 
 use crate::counts::Counts;
-use dn_hist::{Call, PlainMap, Receipt};
+use dn_hist::{PlainMap, Receipt};
 use dn_print::{LaneState, calls_line, history_head, history_line, lane_line, map_line, ways_line};
 use dn_word::{Gate, OutOfMemory};
 use std::alloc::Global;
 
 /// Appends the history's lines.
-fn print_history(alloc: Global, out: &mut Vec<u8>, history: &[Receipt]) -> Result<(), OutOfMemory>
+fn print_history(out: &mut Vec<u8>, history: &[Receipt]) -> Result<(), OutOfMemory>
     ensures { OnOk result (out.new.items ≡ out.old.items ++ history_text history.now) }
 {
-    history_head(alloc, out, history.len() as u64)?;
+    history_head(out, history.len() as u64)?;
     for receipt in history {
-        history_line(alloc, out, receipt, true)?;
-    }
-    Ok(())
-}
-
-/// Changes the map as a call does.
-fn apply(alloc: Global, map: &mut PlainMap, call: &Call) -> Result<(), OutOfMemory>
-    ensures { OnOk result (map.new ≡ map_after call.now map.old) }
-{
-    match call {
-        Call::Get { .. } => {}
-        Call::Put { key, value } => map.insert(*key, value.copy(alloc)?)?,
-        Call::Delete { key } => map.remove(*key),
+        history_line(out, receipt, true)?;
     }
     Ok(())
 }
@@ -42,7 +28,7 @@ fn map_left(alloc: Global, history: &[Receipt]) -> Result<PlainMap, OutOfMemory>
 {
     let mut map = PlainMap::new(alloc);
     for receipt in history {
-        apply(alloc, &mut map, &receipt.call)?;
+        map.apply(alloc, &receipt.call)?;
     }
     Ok(map)
 }
@@ -58,7 +44,8 @@ fn print_summary(
     gate: Gate,
     mark: u64,
 ) -> Result<(), OutOfMemory>
-    ensures { OnOk result (out.new.items ≡ out.old.items ++ counts_text counts history.now lane gate mark) }
+    ensures { OnOk result (out.new.items ≡ out.old.items
+        ++ counts_text counts history.now lane gate mark) }
 {
     let keys = map_left(alloc, history)?.len();
     let Counts {
@@ -69,18 +56,10 @@ fn print_summary(
         index,
     } = counts;
     let refused = given as u64;
-    lane_line(
-        alloc,
-        out,
-        lane,
-        LaneState::Live,
-        gate.stamp,
-        gate.len,
-        mark,
-    )?;
-    calls_line(alloc, out, calls as u64, made as u64, refused, 0, refused)?;
-    ways_line(alloc, out, 0, 0, pending as u64, index as u64, 0)?;
-    map_line(alloc, out, keys)
+    lane_line(out, lane, LaneState::Live, gate.stamp, gate.len, mark)?;
+    calls_line(out, calls as u64, made as u64, refused, 0, refused)?;
+    ways_line(out, 0, 0, pending as u64, index as u64, 0)?;
+    map_line(out, keys)
 }
 
 /// Appends the history and the summary.
@@ -93,8 +72,9 @@ pub(crate) fn print_rest(
     gate: Gate,
     mark: u64,
 ) -> Result<(), OutOfMemory>
-    ensures { OnOk result (out.new.items ≡ out.old.items ++ (history_text history.now ++ counts_text counts history.now lane gate mark)) }
+    ensures { OnOk result (out.new.items ≡ out.old.items
+        ++ (history_text history.now ++ counts_text counts history.now lane gate mark)) }
 {
-    print_history(alloc, out, history)?;
+    print_history(out, history)?;
     print_summary(alloc, out, counts, history, lane, gate, mark)
 }

@@ -8,6 +8,8 @@ ghost use Rattle.dn_world.specs.Run.{IsRun};
 /// Script and pool determine the output and the words: two runs of the same lines, in pools of as many segments, print the same,
 /// and leave the same word at each place.
 pub fn one_run()
-    ensures output { (pool : ℕ) (lines : List Line) (a b x y : List ℕ) → IsRun pool lines a x → IsRun pool lines b y → x ≡ y }
-    ensures words { (pool : ℕ) (lines : List Line) (a b x y : List ℕ) → IsRun pool lines a x → IsRun pool lines b y → (at : ℕ) → word_at a at ≡ word_at b at }
+    ensures output { (pool : ℕ) (lines : List Line) (a b x y : List ℕ) → IsRun pool lines a x
+        → IsRun pool lines b y → x ≡ y }
+    ensures words { (pool : ℕ) (lines : List Line) (a b x y : List ℕ) → IsRun pool lines a x
+        → IsRun pool lines b y → (at : ℕ) → word_at a at ≡ word_at b at }
 {}

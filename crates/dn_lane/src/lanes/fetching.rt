@@ -1,6 +1,7 @@
 //! A call locates its key: the look at the deed of its slot, and the fetch of its last record that isn't merged.
 
 ghost use Rattle.std.specs.Prelude.{◌≡◌, ◌<◌, ◌^◌, ◌+◌, ◌*◌, [], None, true, Some, false, IsSome, if◌then◌else◌};
+ghost use Rattle.dn_act.specs.Words.{pool_size};
 ghost use Rattle.dn_word.specs.Deed.{deed_of};
 ghost use Rattle.dn_locate.specs.Fetch.{is_under_way, fetch_next, fetch_left};
 ghost use Rattle.dn_act.specs.Action.{at_of};
@@ -72,7 +73,8 @@ fn load(log: &LogWriter, fetch: &mut Fetch, word: u64) -> FetchTurn
     ensures turn { result ≡ load_turn log.now fetch.old word }
     ensures after { fetch.new ≡ load_after log.now fetch.old word }
     ensures falls { result ≡ FetchTurn.More → fetch_left fetch.new < fetch_left fetch.old }
-    ensures within { result ≡ FetchTurn.More → (is_under_way fetch.new ≡ true) × (at_of (fetch_next fetch.new) < 98304 + 1024 * log.now.pool) }
+    ensures within { result ≡ FetchTurn.More → (is_under_way fetch.new ≡ true)
+        × (at_of (fetch_next fetch.new) < pool_size log.now.pool) }
 {
     if fetch.loads_directory() && (word == 0 || word > log.pool() as u64) {
         return FetchTurn::Absent;
@@ -91,12 +93,15 @@ impl Lane {
         requires work { (k : Work) → self.old.work ≡ Some k → k.place ≡ Place.Look }
         requires some { IsSome self.old.work }
         requires waits { self.old.staged ≡ [] }
-        ensures turn { (k : Work) → self.old.work ≡ Some k → result ≡ (looked self.old k word (deed_of word)).turn }
-        ensures lane { (k : Work) → self.old.work ≡ Some k → self.new ≡ (looked self.old k word (deed_of word)).lane }
+        ensures turn { (k : Work) → self.old.work ≡ Some k
+            → result ≡ (looked self.old k word (deed_of word)).turn }
+        ensures lane { (k : Work) → self.old.work ≡ Some k
+            → self.new ≡ (looked self.old k word (deed_of word)).lane }
         ensures same { SameLane self.old self.new }
         ensures works { result ≡ Turn.More → IsSome self.new.work }
         ensures ended { (answer : Answer) → result ≡ Turn.Done answer → self.new.work ≡ None }
-        ensures falls { (k : Work) → self.old.work ≡ Some k → result ≡ Turn.More → actions_left self.new < actions_left self.old }
+        ensures falls { (k : Work) → self.old.work ≡ Some k → result ≡ Turn.More
+            → actions_left self.new < actions_left self.old }
         ensures stamp { MadeFits result }
     {
         let deed = Deed::read(word);
@@ -129,11 +134,13 @@ impl Lane {
         requires offset { offset < 262144 }
         requires place { (k : Work) → self.old.work ≡ Some k → k.place ≡ Place.Look }
         ensures turn { result ≡ Turn.More }
-        ensures lane { (k : Work) → self.old.work ≡ Some k → self.new ≡ (locates self.old k floor (Some offset)).lane }
+        ensures lane { (k : Work) → self.old.work ≡ Some k
+            → self.new ≡ (locates self.old k floor (Some offset)).lane }
         ensures same { SameLane self.old self.new }
         ensures works { result ≡ Turn.More → IsSome self.new.work }
         ensures ended { (answer : Answer) → result ≡ Turn.Done answer → self.new.work ≡ None }
-        ensures falls { (k : Work) → self.old.work ≡ Some k → actions_left self.new < actions_left self.old }
+        ensures falls { (k : Work) → self.old.work ≡ Some k
+            → actions_left self.new < actions_left self.old }
     {
         let Some(work) = &self.work else {
             unreachable!()
@@ -152,12 +159,19 @@ impl Lane {
         requires work { (k : Work) → self.old.work ≡ Some k → k.place ≡ Place.Fetch floor }
         requires some { IsSome self.old.work }
         requires waits { self.old.staged ≡ [] }
-        ensures turn { (k : Work) → self.old.work ≡ Some k → result ≡ (fetched_by (record self.old { fetch = load_after self.old.log self.old.fetch word }) k floor (load_turn self.old.log self.old.fetch word)).turn }
-        ensures lane { (k : Work) → self.old.work ≡ Some k → self.new ≡ (fetched_by (record self.old { fetch = load_after self.old.log self.old.fetch word }) k floor (load_turn self.old.log self.old.fetch word)).lane }
+        ensures turn { (k : Work) → self.old.work ≡ Some k
+            → result ≡ (fetched_by
+            (record self.old { fetch = load_after self.old.log self.old.fetch word }) k floor
+            (load_turn self.old.log self.old.fetch word)).turn }
+        ensures lane { (k : Work) → self.old.work ≡ Some k
+            → self.new ≡ (fetched_by
+            (record self.old { fetch = load_after self.old.log self.old.fetch word }) k floor
+            (load_turn self.old.log self.old.fetch word)).lane }
         ensures same { SameLane self.old self.new }
         ensures works { result ≡ Turn.More → IsSome self.new.work }
         ensures ended { (answer : Answer) → result ≡ Turn.Done answer → self.new.work ≡ None }
-        ensures falls { (k : Work) → self.old.work ≡ Some k → result ≡ Turn.More → actions_left self.new < actions_left self.old }
+        ensures falls { (k : Work) → self.old.work ≡ Some k → result ≡ Turn.More
+            → actions_left self.new < actions_left self.old }
         ensures stamp { MadeFits result }
     {
         let turn = load(&self.log, &mut self.fetch, word);

@@ -61,12 +61,15 @@ impl Lane {
         requires work { (k : Work) → self.old.work ≡ Some k → k.place ≡ Place.Gate floor located }
         requires some { IsSome self.old.work }
         requires waits { self.old.staged ≡ [] }
-        ensures turn { (k : Work) → self.old.work ≡ Some k → result ≡ (gated self.old k floor located word).turn }
-        ensures lane { (k : Work) → self.old.work ≡ Some k → self.new ≡ (gated self.old k floor located word).lane }
+        ensures turn { (k : Work) → self.old.work ≡ Some k
+            → result ≡ (gated self.old k floor located word).turn }
+        ensures lane { (k : Work) → self.old.work ≡ Some k
+            → self.new ≡ (gated self.old k floor located word).lane }
         ensures same { SameLane self.old self.new }
         ensures works { result ≡ Turn.More → IsSome self.new.work }
         ensures ended { (answer : Answer) → result ≡ Turn.Done answer → self.new.work ≡ None }
-        ensures falls { (k : Work) → self.old.work ≡ Some k → result ≡ Turn.More → actions_left self.new < actions_left self.old }
+        ensures falls { (k : Work) → self.old.work ≡ Some k → result ≡ Turn.More
+            → actions_left self.new < actions_left self.old }
         ensures stamp { MadeFits result }
     {
         let gate = Gate::read(word);
@@ -104,12 +107,15 @@ impl Lane {
         requires waits { self.old.staged ≡ [] }
         requires quiet { ForSome quiet (λ to. to.stamp < 2 ^ 31) }
         requires raised { ForSome raised (λ to. to.stamp < 2 ^ 31) }
-        ensures turn { (k : Work) → self.old.work ≡ Some k → result ≡ (quietly self.old k located gate quiet raised).turn }
-        ensures lane { (k : Work) → self.old.work ≡ Some k → self.new ≡ (quietly self.old k located gate quiet raised).lane }
+        ensures turn { (k : Work) → self.old.work ≡ Some k
+            → result ≡ (quietly self.old k located gate quiet raised).turn }
+        ensures lane { (k : Work) → self.old.work ≡ Some k
+            → self.new ≡ (quietly self.old k located gate quiet raised).lane }
         ensures same { SameLane self.old self.new }
         ensures works { result ≡ Turn.More → IsSome self.new.work }
         ensures ended { (answer : Answer) → result ≡ Turn.Done answer → self.new.work ≡ None }
-        ensures falls { (k : Work) → self.old.work ≡ Some k → result ≡ Turn.More → actions_left self.new < 7 + record_words k.call }
+        ensures falls { (k : Work) → self.old.work ≡ Some k → result ≡ Turn.More
+            → actions_left self.new < 7 + record_words k.call }
         ensures stamp { MadeFits result }
     {
         if let Some(to) = quiet {
@@ -126,16 +132,20 @@ impl Lane {
 
     /// The gate of a get was exchanged.
     pub(super) fn raise(&mut self, located: Located, gate: u64, to: Position, word: u64) -> Turn
-        requires work { (k : Work) → self.old.work ≡ Some k → k.place ≡ Place.Raise located gate to }
+        requires work { (k : Work) → self.old.work ≡ Some k
+            → k.place ≡ Place.Raise located gate to }
         requires some { IsSome self.old.work }
         requires stamp { to.stamp < 2 ^ 31 }
         requires waits { self.old.staged ≡ [] }
-        ensures turn { (k : Work) → self.old.work ≡ Some k → result ≡ (raised self.old k located gate to word).turn }
-        ensures lane { (k : Work) → self.old.work ≡ Some k → self.new ≡ (raised self.old k located gate to word).lane }
+        ensures turn { (k : Work) → self.old.work ≡ Some k
+            → result ≡ (raised self.old k located gate to word).turn }
+        ensures lane { (k : Work) → self.old.work ≡ Some k
+            → self.new ≡ (raised self.old k located gate to word).lane }
         ensures same { SameLane self.old self.new }
         ensures works { result ≡ Turn.More → IsSome self.new.work }
         ensures ended { (answer : Answer) → result ≡ Turn.Done answer → self.new.work ≡ None }
-        ensures falls { (k : Work) → self.old.work ≡ Some k → result ≡ Turn.More → actions_left self.new < actions_left self.old }
+        ensures falls { (k : Work) → self.old.work ≡ Some k → result ≡ Turn.More
+            → actions_left self.new < actions_left self.old }
         ensures stamp { MadeFits result }
     {
         if word != gate {
@@ -153,12 +163,15 @@ impl Lane {
         requires some { IsSome self.old.work }
         requires waits { self.old.staged ≡ [] }
         requires raised { ForSome raised (λ to. to.stamp < 2 ^ 31) }
-        ensures turn { (k : Work) → self.old.work ≡ Some k → result ≡ (writing self.old k located gate raised).turn }
-        ensures lane { (k : Work) → self.old.work ≡ Some k → self.new ≡ (writing self.old k located gate raised).lane }
+        ensures turn { (k : Work) → self.old.work ≡ Some k
+            → result ≡ (writing self.old k located gate raised).turn }
+        ensures lane { (k : Work) → self.old.work ≡ Some k
+            → self.new ≡ (writing self.old k located gate raised).lane }
         ensures same { SameLane self.old self.new }
         ensures works { result ≡ Turn.More → IsSome self.new.work }
         ensures ended { (answer : Answer) → result ≡ Turn.Done answer → self.new.work ≡ None }
-        ensures falls { (k : Work) → self.old.work ≡ Some k → result ≡ Turn.More → actions_left self.new < 7 + record_words k.call }
+        ensures falls { (k : Work) → self.old.work ≡ Some k → result ≡ Turn.More
+            → actions_left self.new < 7 + record_words k.call }
         ensures stamp { MadeFits result }
     {
         match raised {

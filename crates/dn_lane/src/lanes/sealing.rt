@@ -59,12 +59,15 @@ impl Lane {
         requires some { IsSome self.old.work }
         requires waits { self.old.staged ≡ [] }
         requires stamp { to.stamp < 2 ^ 31 }
-        ensures turn { (k : Work) → self.old.work ≡ Some k → result ≡ (rooms self.old k located gate to).turn }
-        ensures lane { (k : Work) → self.old.work ≡ Some k → self.new ≡ (rooms self.old k located gate to).lane }
+        ensures turn { (k : Work) → self.old.work ≡ Some k
+            → result ≡ (rooms self.old k located gate to).turn }
+        ensures lane { (k : Work) → self.old.work ≡ Some k
+            → self.new ≡ (rooms self.old k located gate to).lane }
         ensures same { SameLane self.old self.new }
         ensures works { result ≡ Turn.More → IsSome self.new.work }
         ensures ended { (answer : Answer) → result ≡ Turn.Done answer → self.new.work ≡ None }
-        ensures falls { (k : Work) → self.old.work ≡ Some k → result ≡ Turn.More → actions_left self.new < 7 + record_words k.call }
+        ensures falls { (k : Work) → self.old.work ≡ Some k → result ≡ Turn.More
+            → actions_left self.new < 7 + record_words k.call }
         ensures stamp { MadeFits result }
     {
         let Some(work) = &self.work else {
@@ -92,17 +95,20 @@ impl Lane {
     /// spare one.
     fn stage(&mut self, claimed: Option<u32>, located: Located, gate: u64, to: Position) -> Turn
         requires write { (k : Work) → self.old.work ≡ Some k → IsWrite k.call }
-        requires reach { (k : Work) → self.old.work ≡ Some k → claimed ≡ None → (plan_of self.old.log (record_words k.call)).need_segment ≡ false }
+        requires reach { (k : Work) → self.old.work ≡ Some k → claimed ≡ None
+            → (plan_of self.old.log (record_words k.call)).need_segment ≡ false }
         requires claimed { IfSome claimed (λ segment. IsSpareFor self.old.log segment) }
         requires some { IsSome self.old.work }
         requires waits { self.old.staged ≡ [] }
         requires stamp { to.stamp < 2 ^ 31 }
         ensures turn { result ≡ Turn.More }
-        ensures lane { (k : Work) → self.old.work ≡ Some k → self.new ≡ (stages (with_spare self.old claimed) k located gate to).lane }
+        ensures lane { (k : Work) → self.old.work ≡ Some k
+            → self.new ≡ (stages (with_spare self.old claimed) k located gate to).lane }
         ensures same { SameLane self.old self.new }
         ensures works { result ≡ Turn.More → IsSome self.new.work }
         ensures ended { (answer : Answer) → result ≡ Turn.Done answer → self.new.work ≡ None }
-        ensures left { (k : Work) → self.old.work ≡ Some k → actions_left self.new ≤ 3 + record_words k.call }
+        ensures left { (k : Work) → self.old.work ≡ Some k
+            → actions_left self.new ≤ 3 + record_words k.call }
     {
         let Some(mut work) = self.work.take() else {
             unreachable!()
@@ -125,18 +131,24 @@ impl Lane {
         claim: Claim,
         word: u64,
     ) -> Turn
-        requires work { (k : Work) → self.old.work ≡ Some k → k.place ≡ Place.Claim located gate to claim }
+        requires work { (k : Work) → self.old.work ≡ Some k
+            → k.place ≡ Place.Claim located gate to claim }
         requires write { (k : Work) → self.old.work ≡ Some k → IsWrite k.call }
         requires claims { ClaimsFor self.old.log claim }
         requires some { IsSome self.old.work }
         requires waits { self.old.staged ≡ [] }
         requires stamp { to.stamp < 2 ^ 31 }
-        ensures turn { (k : Work) → self.old.work ≡ Some k → result ≡ (claimed_by self.old k located gate to (claim_after claim word) (claim_turn claim word)).turn }
-        ensures lane { (k : Work) → self.old.work ≡ Some k → self.new ≡ (claimed_by self.old k located gate to (claim_after claim word) (claim_turn claim word)).lane }
+        ensures turn { (k : Work) → self.old.work ≡ Some k
+            → result ≡ (claimed_by self.old k located gate to (claim_after claim word)
+            (claim_turn claim word)).turn }
+        ensures lane { (k : Work) → self.old.work ≡ Some k
+            → self.new ≡ (claimed_by self.old k located gate to (claim_after claim word)
+            (claim_turn claim word)).lane }
         ensures same { SameLane self.old self.new }
         ensures works { result ≡ Turn.More → IsSome self.new.work }
         ensures ended { (answer : Answer) → result ≡ Turn.Done answer → self.new.work ≡ None }
-        ensures falls { (k : Work) → self.old.work ≡ Some k → result ≡ Turn.More → actions_left self.new < actions_left self.old }
+        ensures falls { (k : Work) → self.old.work ≡ Some k → result ≡ Turn.More
+            → actions_left self.new < actions_left self.old }
         ensures stamp { MadeFits result }
     {
         let mut claim = claim;
@@ -158,12 +170,15 @@ impl Lane {
         requires some { IsSome self.old.work }
         requires stamp { to.stamp < 2 ^ 31 }
         requires waits { self.old.staged ≡ [] }
-        ensures turn { (k : Work) → self.old.work ≡ Some k → result ≡ (sealed self.old k located gate to word).turn }
-        ensures lane { (k : Work) → self.old.work ≡ Some k → self.new ≡ (sealed self.old k located gate to word).lane }
+        ensures turn { (k : Work) → self.old.work ≡ Some k
+            → result ≡ (sealed self.old k located gate to word).turn }
+        ensures lane { (k : Work) → self.old.work ≡ Some k
+            → self.new ≡ (sealed self.old k located gate to word).lane }
         ensures same { SameLane self.old self.new }
         ensures works { result ≡ Turn.More → IsSome self.new.work }
         ensures ended { (answer : Answer) → result ≡ Turn.Done answer → self.new.work ≡ None }
-        ensures falls { (k : Work) → self.old.work ≡ Some k → result ≡ Turn.More → actions_left self.new < actions_left self.old }
+        ensures falls { (k : Work) → self.old.work ≡ Some k → result ≡ Turn.More
+            → actions_left self.new < actions_left self.old }
         ensures stamp { MadeFits result }
     {
         if word != gate {

@@ -1,6 +1,7 @@
 //! The next action of a lane, and how it goes on with the word that the action found.
 
 ghost use Rattle.std.specs.Prelude.{ℕ, Option, ◌≡◌, ◌<◌, ◌^◌, ◌+◌, ◌*◌, [], None, Some, IsSome, IfSome};
+ghost use Rattle.dn_act.specs.Words.{pool_size};
 ghost use Rattle.dn_act.specs.Action.{at_of};
 ghost use Rattle.dn_lane.specs.Same.{SameLane};
 ghost use Rattle.dn_lane.specs.Next.{next_of, action_of, sealing};
@@ -38,7 +39,7 @@ impl Lane {
     /// flow it is the store of the oldest.
     pub fn next(&self) -> Option<Action>
         ensures value { result ≡ next_of self.now }
-        ensures within { IfSome result (λ action. at_of action < 98304 + 1024 * self.now.log.pool) }
+        ensures within { IfSome result (λ action. at_of action < pool_size self.now.log.pool) }
     {
         let work = self.work.as_ref()?;
         match self.staging.flow(0) {
@@ -51,7 +52,7 @@ impl Lane {
     fn action(&self, work: &Work) -> Action
         requires fits { FitsAt self.now work.now work.now.place }
         ensures value { result ≡ action_of self.now work.now work.now.place }
-        ensures within { at_of result < 98304 + 1024 * self.now.log.pool }
+        ensures within { at_of result < pool_size self.now.log.pool }
     {
         match work.place {
             Place::Look => Action::Load {
@@ -74,7 +75,7 @@ impl Lane {
         requires stamp { to.stamp < 2 ^ 31 }
         requires len { len < 2 ^ 24 }
         ensures value { result ≡ Action.Cas (64 + self.now.log.lane) gate (sealing to len) }
-        ensures within { at_of result < 98304 + 1024 * self.now.log.pool }
+        ensures within { at_of result < pool_size self.now.log.pool }
     {
         Action::Cas {
             at: gate_at(self.log.lane()),
@@ -98,11 +99,19 @@ impl Lane {
         ensures ended { (answer : Answer) → result ≡ Turn.Done answer → self.new.work ≡ None }
         ensures falls { result ≡ Turn.More → actions_left self.new < actions_left self.old }
         ensures stamp { MadeFits result }
-        ensures made { (k : Work) (receipt : Receipt) (way : Way) → self.old.work ≡ Some k → result ≡ Turn.Done (Answer.Made receipt way) → IsMade self.old k word k.place receipt way }
-        ensures not_owner { (k : Work) (look : ℕ) (cell : Option ℕ) → self.old.work ≡ Some k → result ≡ Turn.Done (Answer.NotOwner look cell) → IsNotOwner self.old word k.place look cell }
-        ensures fenced { (k : Work) (gate : ℕ) → self.old.work ≡ Some k → result ≡ Turn.Done (Answer.Fenced gate) → IsFenced word k.place gate }
-        ensures full { (k : Work) (counter segments : ℕ) → self.old.work ≡ Some k → result ≡ Turn.Done (Answer.Full counter segments) → IsFull self.old k word k.place counter segments }
-        ensures worn { (k : Work) (stamp : ℕ) → self.old.work ≡ Some k → result ≡ Turn.Done (Answer.Worn stamp) → IsWorn k word k.place stamp }
+        ensures made { (k : Work) (receipt : Receipt) (way : Way) → self.old.work ≡ Some k
+            → result ≡ Turn.Done (Answer.Made receipt way)
+            → IsMade self.old k word k.place receipt way }
+        ensures not_owner { (k : Work) (look : ℕ) (cell : Option ℕ) → self.old.work ≡ Some k
+            → result ≡ Turn.Done (Answer.NotOwner look cell)
+            → IsNotOwner self.old word k.place look cell }
+        ensures fenced { (k : Work) (gate : ℕ) → self.old.work ≡ Some k
+            → result ≡ Turn.Done (Answer.Fenced gate) → IsFenced word k.place gate }
+        ensures full { (k : Work) (counter segments : ℕ) → self.old.work ≡ Some k
+            → result ≡ Turn.Done (Answer.Full counter segments)
+            → IsFull self.old k word k.place counter segments }
+        ensures worn { (k : Work) (stamp : ℕ) → self.old.work ≡ Some k
+            → result ≡ Turn.Done (Answer.Worn stamp) → IsWorn k word k.place stamp }
     {
         if !self.staging.is_empty() {
             self.staging.flowed(0);
@@ -149,11 +158,13 @@ impl Lane {
         requires waits { self.old.staged ≡ [] }
         requires fits { (k : Work) → self.old.work ≡ Some k → FitsAt self.old k place }
         ensures turn { result ≡ Turn.More }
-        ensures lane { (k : Work) → self.old.work ≡ Some k → self.new ≡ (goes self.old k place).lane }
+        ensures lane { (k : Work) → self.old.work ≡ Some k
+            → self.new ≡ (goes self.old k place).lane }
         ensures same { SameLane self.old self.new }
         ensures works { result ≡ Turn.More → IsSome self.new.work }
         ensures ended { (answer : Answer) → result ≡ Turn.Done answer → self.new.work ≡ None }
-        ensures left { (k : Work) → self.old.work ≡ Some k → actions_left self.new ≡ left_at self.old k place }
+        ensures left { (k : Work) → self.old.work ≡ Some k
+            → actions_left self.new ≡ left_at self.old k place }
     {
         let Some(mut work) = self.work.take() else {
             unreachable!()

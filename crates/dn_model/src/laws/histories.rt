@@ -11,7 +11,8 @@ ghost use Rattle.dn_model.specs.Register.{written_by, IsLegalByStamp, IsRegister
 
 /// Receipts whose replies are right by stamps alone are a legal history, in whatever order of position they are put.
 pub fn legal_in_order()
-    ensures { (rs hs : List Made) → IsLegalByStamp rs → IsPermutation rs hs → IsInOrder hs → IsLegal hs }
+    ensures { (rs hs : List Made) → IsLegalByStamp rs → IsPermutation rs hs → IsInOrder hs
+        → IsLegal hs }
 {}
 
 /// The same of a register, whose history leaves what is held at each key.
@@ -25,12 +26,17 @@ pub fn register_in_order()
 
 /// A register stays one where nothing that is held changes and bounds rise, where a read is added, and where a write is.
 pub fn register_steps()
-    ensures same { (held now : ℕ → Option (List ℕ)) (bound raised : ℕ → ℕ) (rs : List Made) → IsRegister held bound rs
+    ensures same { (held now : ℕ → Option (List ℕ)) (bound raised : ℕ → ℕ) (rs : List Made)
+        → IsRegister held bound rs
         → ((k : ℕ) → now k ≡ held k) → ((k : ℕ) → bound k ≤ raised k) → IsRegister now raised rs }
-    ensures read { (held : ℕ → Option (List ℕ)) (bound : ℕ → ℕ) (rs : List Made) (n : Made) → IsRegister held bound rs
+    ensures read { (held : ℕ → Option (List ℕ)) (bound : ℕ → ℕ) (rs : List Made) (n : Made)
+        → IsRegister held bound rs
         → IsReadOf bound rs n → IsRegister held bound (rs ++ n ∷ []) }
-    ensures write { (held now : ℕ → Option (List ℕ)) (bound raised : ℕ → ℕ) (rs : List Made) (n : Made) → IsRegister held bound rs
-        → IsWriteOf bound rs n → raised (key_of n.call) ≡ n.position.stamp → ((k : ℕ) → bound k ≤ raised k)
-        → now (key_of n.call) ≡ written_by n.call → ((k : ℕ) → (k ≡ key_of n.call → ⊥) → now k ≡ held k)
+    ensures write { (held now : ℕ → Option (List ℕ)) (bound raised : ℕ → ℕ) (rs : List Made)
+        (n : Made) → IsRegister held bound rs
+        → IsWriteOf bound rs n → raised (key_of n.call) ≡ n.position.stamp
+        → ((k : ℕ) → bound k ≤ raised k)
+        → now (key_of n.call) ≡ written_by n.call
+        → ((k : ℕ) → (k ≡ key_of n.call → ⊥) → now k ≡ held k)
         → IsRegister now raised (rs ++ n ∷ []) }
 {}

@@ -35,7 +35,8 @@ impl Cell {
         requires stamp { self.now.stamp < 2 ^ 31 }
         requires at { ForSome self.now.at (λ at. at.offset < 2 ^ 24) }
         ensures value { result ≡ cell_word self.now }
-        ensures again { ForSome self.now.at (λ at. at.lane + at.offset ≢ 0) → cell_of result ≡ self.now }
+        ensures again { ForSome self.now.at (λ at. at.lane + at.offset ≢ 0)
+            → cell_of result ≡ self.now }
     {
         let place = match self.at {
             None => 0,

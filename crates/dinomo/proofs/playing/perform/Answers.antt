@@ -16,7 +16,7 @@ loop-line-preserved g c = record {
   size = omega (arith, c.loop-line.invariant.size, c.call_line.ensures.pool, c.call_line.ensures.size);
   same = c.call_line.ensures.size ∙ c.loop-line.invariant.same;
   segments = c.call_line.ensures.pool ∙ c.loop-line.invariant.segments;
-  faults = c.in_ok-call_line.ensures.no_fault ∙ c.loop-line.invariant.faults;
+  faults = c.in_ok-call_line.ensures.count.answered ∙ c.loop-line.invariant.faults;
 }
 
 pub returns-clause-run : goal.returns-clause-run

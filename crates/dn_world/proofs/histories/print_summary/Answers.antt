@@ -13,6 +13,6 @@ returns c =
     let keys : c.len-keys.result ≡ len (map_left c.args.history.now) = c.len-keys.ensures ∙ ap len c.in_ok-map_left.ensures in
     on_ok_weaker c.map_line.result
     (λ last. four_printed c.args.out.now.items c.lane_line.new.out.items c.calls_line.new.out.items c.ways_line.new.out.items c.map_line.new.out.items
-    (lane_text c.args.lane Live c.args.gate.stamp c.args.gate.len c.args.mark) (calls_text n.calls n.made n.given 0 n.given) (ways_text 0 0 n.pending n.index 0) (map_text (len (map_left c.args.history.now)))
+    (lane_text (record { lane = c.args.lane; state = Live; stamp = c.args.gate.stamp; len = c.args.gate.len; mark = c.args.mark })) (calls_text (record { calls = n.calls; made = n.made; refused = n.given; unanswered = 0; given = n.given })) (ways_text (record { value = 0; shortcut = 0; pending = n.pending; index = n.index; cell = 0 })) (map_text (len (map_left c.args.history.now)))
     c.in_ok-lane_line.ensures.ok c.in_ok-calls_line.ensures.ok c.in_ok-ways_line.ensures.ok (last ∙ ap (λ k. c.ways_line.new.out.items ++ map_text k) keys))
     c.map_line.ensures.ok

@@ -1,0 +1,5 @@
+pub mod OwnerLaws
+pub mod PointLaws
+pub mod NearestLaws
+pub mod ArcLaws
+pub mod SweepLaws
