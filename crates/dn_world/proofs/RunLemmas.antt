@@ -20,7 +20,7 @@ use Rattle.dn_world.specs.Playing.{IsPlaying, CallsAsked, CallsLine}
 use Rattle.dn_world.specs.Rest.{PrintsRest, counts_text}
 use Rattle.dn_world.specs.Run.{EndsAsked, AreCalled, IsRun}
 use Rattle.dn_world.specs.State.{WorldState}
-use Rattle.dn_world.specs.World.{IsWorld, Calls, IsCalled}
+use Rattle.dn_world.specs.World.{IsWorld, IsCalled}
 use Rattle.dn_world.specs.declared.counts.Counts.{Counts}
 
 -- a call that a line can ask for is one that a record can have
