@@ -15,7 +15,8 @@ use Rattle.dn_script.specs.Script.{BadLine, Draft, with_meaning, line_count, scr
 
 -- why bytes are no script: too many lines, or a bad one where there aren't
 abbrev pub IsParseFault : List Verb → Mode → ℕ → List ℕ → ParseFault → Type 0
-IsParseFault verbs mode segments bytes (fault.Bad line cause) = (script_of verbs mode segments bytes ≡ Err (record { line = line; cause = cause })) × (line_count bytes ≤ 1000000)
+IsParseFault verbs mode segments bytes (fault.Bad line cause) =
+    (script_of verbs mode segments bytes ≡ Err (record { line = line; cause = cause })) × (line_count bytes ≤ 1000000)
 IsParseFault verbs mode segments bytes fault.Lines = 1000000 < line_count bytes
 IsParseFault verbs mode segments bytes fault.OutOfMemory = Unit {0}
 
@@ -31,7 +32,9 @@ IsDraftFault draft fault.OutOfMemory = Unit {0}
 
 -- a line that was read so adds this
 abbrev pub Adds : Result (Option Meaning) Cause → Header → List Line → Header → List Line → Type 0
-Adds read header lines after more = and_then read (λ meaning. Ok (with_meaning (record { header = header; lines = lines }) meaning)) ≡ Ok (record { header = after; lines = more })
+Adds read header lines after more =
+    and_then read (λ meaning. Ok (with_meaning (record { header = header; lines = lines }) meaning))
+    ≡ Ok (record { header = after; lines = more })
 
 -- the fault of the line of this number
 abbrev pub fault_at : ℕ → LineFault → ParseFault

@@ -12,13 +12,17 @@ use Rattle.dn_script.specs.Said.{Said}
 abbrev pub calling : Said → CallOf → Meaning
 calling said asked = gives.Line (line.Call said.session said.named said.start asked)
 
+-- the line of a put
+abbrev pub putting : Said → Meaning
+putting said = calling said (call.Put said.key said.value)
+
 -- what a line of the row gives, where its fields say this
 abbrev pub meaning_of : Row → Said → Meaning
 meaning_of Pool said = gives.Segments said.segments
 meaning_of Nodes said = gives.Nodes said.nodes
 meaning_of Cache said = gives.Units said.units
 meaning_of (Get form) said = calling said (call.Get said.key)
-meaning_of (Put form) said = calling said (call.Put said.key said.value)
+meaning_of (Put form) said = putting said
 meaning_of (Delete form) said = calling said (call.Delete said.key)
 meaning_of Step said = gives.Line (line.Step said.lane said.count)
 meaning_of Flow said = gives.Line (line.Flow said.lane said.index)

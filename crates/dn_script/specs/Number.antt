@@ -23,7 +23,9 @@ has_leading_zero field = nat_eq (slice_index field 0) 48 && nat_lt 1 (length fie
 
 -- a number below 2^64 in decimal, without sign and leading zeros
 abbrev pub numeral_of : List ℕ → Option ℕ
-numeral_of field = if nat_eq (length field) 0 || has_leading_zero field then None else fitting (list_all is_digit field) (number_of field)
+numeral_of field =
+    if nat_eq (length field) 0 || has_leading_zero field then None
+    else fitting (list_all is_digit field) (number_of field)
 
 -- a number that lies from one to another
 abbrev pub kept_within : ℕ → ℕ → Option ℕ → Option ℕ

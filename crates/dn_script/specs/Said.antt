@@ -27,7 +27,22 @@ pub record Said : Type 0 where
 
 -- before a field was read: a count that is left out is 1
 abbrev pub unsaid : Said
-unsaid = record { session = 1; named = None; start = false; lane = 1; key = 1; value = []; segments = 1; nodes = 1; units = 4096; count = 1; index = 0; from = 1; to = 1 }
+unsaid =
+    record {
+      session = 1;
+      named = None;
+      start = false;
+      lane = 1;
+      key = 1;
+      value = [];
+      segments = 1;
+      nodes = 1;
+      units = 4096;
+      count = 1;
+      index = 0;
+      from = 1;
+      to = 1;
+    }
 
 -- what a field says, or the cause for which it is bad
 abbrev pub told : {A : Type 0} → Cause → Option A → (A → Said) → Result Said Cause
@@ -54,12 +69,15 @@ with_number _ field said = Err cause.Number
 -- what the field of a part adds to what the fields before it say
 abbrev pub with_field : Rules → Part → List ℕ → Said → Result Said Cause
 with_field rules (Word verb) field said = Ok (with_word verb said)
-with_field rules Session field said = told cause.Session (number_in 1 rules.sessions (drop 1 field)) (λ n. record said { session = n })
-with_field rules Named field said = told cause.Lane (number_in 1 63 (drop 1 field)) (λ n. record said { named = Some n })
+with_field rules Session field said =
+    told cause.Session (number_in 1 rules.sessions (drop 1 field)) (λ n. record said { session = n })
+with_field rules Named field said =
+    told cause.Lane (number_in 1 63 (drop 1 field)) (λ n. record said { named = Some n })
 with_field rules Lane field said = told cause.Lane (number_in 1 63 field) (λ n. record said { lane = n })
 with_field rules Key field said = told cause.Key (number_in 1 18446744073709551615 field) (λ n. record said { key = n })
 with_field rules Value field said = told cause.Value (value_of field) (λ bytes. record said { value = bytes })
-with_field rules Segments field said = told cause.Pool (number_in 1 rules.segments field) (λ n. record said { segments = n })
+with_field rules Segments field said =
+    told cause.Pool (number_in 1 rules.segments field) (λ n. record said { segments = n })
 with_field rules From field said = told cause.Session (number_in 1 rules.sessions field) (λ n. record said { from = n })
 with_field rules To field said = told cause.Session (number_in 1 rules.sessions field) (λ n. record said { to = n })
 with_field rules part field said = with_number part field said
@@ -73,4 +91,5 @@ and_then (Err bad) follow = Err bad
 abbrev pub reading : Rules → List Part → List (List ℕ) → Said → Result Said Cause
 reading rules [] fields said = Ok said
 reading rules (part ∷ parts) [] said = Ok said
-reading rules (part ∷ parts) (field ∷ fields) said = and_then (with_field rules part field said) (λ more. reading rules parts fields more)
+reading rules (part ∷ parts) (field ∷ fields) said =
+    and_then (with_field rules part field said) (λ more. reading rules parts fields more)

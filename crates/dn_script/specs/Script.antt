@@ -31,9 +31,12 @@ blank = record { header = record { segments = None; nodes = None; units = None }
 -- with what one line more gives
 abbrev pub with_meaning : Draft → Option Meaning → Draft
 with_meaning draft None = draft
-with_meaning draft (Some (Segments number)) = record { header = record draft.header { segments = Some number }; lines = draft.lines }
-with_meaning draft (Some (Nodes number)) = record { header = record draft.header { nodes = Some number }; lines = draft.lines }
-with_meaning draft (Some (Units number)) = record { header = record draft.header { units = Some number }; lines = draft.lines }
+with_meaning draft (Some (Segments number)) =
+    record { header = record draft.header { segments = Some number }; lines = draft.lines }
+with_meaning draft (Some (Nodes number)) =
+    record { header = record draft.header { nodes = Some number }; lines = draft.lines }
+with_meaning draft (Some (Units number)) =
+    record { header = record draft.header { units = Some number }; lines = draft.lines }
 with_meaning draft (Some (Line line)) = record { header = draft.header; lines = draft.lines ++ line ∷ [] }
 
 -- the bad line of this number, or what follows from what it gives
@@ -45,14 +48,19 @@ numbered number (Ok meaning) follow = follow meaning
 abbrev pub is_late : Draft → Bool
 is_late draft = nat_lt 0 (length draft.lines)
 
--- what lines give, after a draft of those before them, or the first bad one. The first of these texts has this number, and behind
--- the last newline stands nothing, or a line that is cut off.
+-- what lines give, after a draft of those before them, or the first bad one. The first of these texts has this
+-- number, and behind the last newline stands nothing, or a line that is cut off.
 abbrev pub drafted : List Verb → Rules → ℕ → Draft → List (List ℕ) → Result Draft BadLine
 drafted verbs rules number draft [] = Ok draft
-drafted verbs rules number draft (last ∷ []) = if nat_eq (length last) 0 then Ok draft else Err (record { line = number; cause = cause.Cut })
+drafted verbs rules number draft (last ∷ []) =
+    if nat_eq (length last) 0 then Ok draft else Err (record { line = number; cause = cause.Cut })
 drafted verbs rules number draft (line ∷ next ∷ lines) =
     numbered number (line_meaning verbs rules draft.header (is_late draft) line)
     (λ meaning. drafted verbs rules (number + 1) (with_meaning draft meaning) (next ∷ lines))
+
+-- what all lines give, or the first bad one
+abbrev pub draft_in : List Verb → Rules → List ℕ → Result Draft BadLine
+draft_in verbs rules bytes = drafted verbs rules 1 blank (slice_split (λ b. nat_eq b 10) bytes)
 
 -- what a header line says, or what holds without it
 abbrev pub given_or : ℕ → Option ℕ → ℕ
@@ -71,12 +79,13 @@ finished segments (Ok draft) = Ok (record {
 
 -- the mode, and how many segments and sessions a line may name
 abbrev pub rules_of : List Verb → Mode → ℕ → Rules
-rules_of verbs mode segments = record { mode = mode; segments = segments; sessions = if is_among verb.Sessions verbs then 1000 else 1 }
+rules_of verbs mode segments =
+    record { mode = mode; segments = segments; sessions = if is_among verb.Sessions verbs then 1000 else 1 }
 
 -- the script that bytes are, with these verbs, for a pool of so many segments, or its first bad line
 abbrev pub script_of : List Verb → Mode → ℕ → List ℕ → Result Script BadLine
 script_of verbs mode segments bytes =
-    finished segments (drafted verbs (rules_of verbs mode segments) 1 blank (slice_split (λ b. nat_eq b 10) bytes))
+    finished segments (draft_in verbs (rules_of verbs mode segments) bytes)
 
 -- the last line has its newline
 abbrev pub is_whole : List ℕ → Bool

@@ -90,19 +90,21 @@ checked rules header is_late fields row =
 
 -- what a line of the row gives
 abbrev pub judged : Rules → Header → Bool → List (List ℕ) → Row → Result Meaning Cause
-judged rules header is_late fields row = and_then (checked rules header is_late fields row) (λ said. Ok (meaning_of row said))
+judged rules header is_late fields row =
+    and_then (checked rules header is_late fields row) (λ said. Ok (meaning_of row said))
 
 -- what a line that isn't idle gives, where it begins the row
 abbrev pub judged_by : Rules → Header → Bool → List (List ℕ) → Option Row → Result (Option Meaning) Cause
 judged_by rules header is_late fields None = Err cause.Verb
-judged_by rules header is_late fields (Some row) = and_then (judged rules header is_late fields row) (λ meaning. Ok (Some meaning))
+judged_by rules header is_late fields (Some row) =
+    and_then (judged rules header is_late fields row) (λ meaning. Ok (Some meaning))
 
 -- an empty line, or one that begins with `;`
 abbrev pub is_idle : List ℕ → Bool
 is_idle line = nat_eq (length line) 0 || nat_eq (slice_index line 0) 59
 
--- What a line gives, or the first cause for which it is bad, from `long` on. The header lines before it say this, and it is late where
--- another line stands before it.
+-- What a line gives, or the first cause for which it is bad, from `long` on. The header lines before it say this, and
+-- it is late where another line stands before it.
 abbrev pub line_meaning : List Verb → Rules → Header → Bool → List ℕ → Result (Option Meaning) Cause
 line_meaning verbs rules header is_late line =
     if nat_lt 4096 (length line) then Err cause.Long

@@ -36,8 +36,10 @@ parts_of (Get Started) = part.Session ∷ part.Word verb.Start ∷ part.Word ver
 parts_of (Put Started) = part.Session ∷ part.Word verb.Start ∷ part.Word verb.Put ∷ part.Key ∷ part.Value ∷ []
 parts_of (Delete Started) = part.Session ∷ part.Word verb.Start ∷ part.Word verb.Delete ∷ part.Key ∷ []
 parts_of (Get NamedStarted) = part.Session ∷ part.Named ∷ part.Word verb.Start ∷ part.Word verb.Get ∷ part.Key ∷ []
-parts_of (Put NamedStarted) = part.Session ∷ part.Named ∷ part.Word verb.Start ∷ part.Word verb.Put ∷ part.Key ∷ part.Value ∷ []
-parts_of (Delete NamedStarted) = part.Session ∷ part.Named ∷ part.Word verb.Start ∷ part.Word verb.Delete ∷ part.Key ∷ []
+parts_of (Put NamedStarted) =
+    part.Session ∷ part.Named ∷ part.Word verb.Start ∷ part.Word verb.Put ∷ part.Key ∷ part.Value ∷ []
+parts_of (Delete NamedStarted) =
+    part.Session ∷ part.Named ∷ part.Word verb.Start ∷ part.Word verb.Delete ∷ part.Key ∷ []
 parts_of Step = part.Word verb.Step ∷ part.Lane ∷ part.Count ∷ []
 parts_of Flow = part.Word verb.Flow ∷ part.Lane ∷ part.Index ∷ []
 parts_of Merge = part.Word verb.Merge ∷ part.Lane ∷ part.Count ∷ []

@@ -24,7 +24,9 @@ pairs_of (high ∷ low ∷ more) = (16 * digit_value high + digit_value low) ∷
 
 -- `%` is followed by 0 to 1,024 pairs of hexadecimal digits
 abbrev pub pair_value : List ℕ → Option (List ℕ)
-pair_value digits = if nat_le (length digits) 2048 && nat_eq (length digits % 2) 0 && list_all is_hexadecimal digits then Some (pairs_of digits) else None
+pair_value digits =
+    if nat_le (length digits) 2048 && nat_eq (length digits % 2) 0 && list_all is_hexadecimal digits
+    then Some (pairs_of digits) else None
 
 -- a byte so many times
 abbrev pub filled_with : Option ℕ → Option ℕ → Option (List ℕ)

@@ -3,8 +3,8 @@ ghost use Rattle.dn_script.specs.Bad.{name_of};
 
 use thiserror::Error;
 
-/// Why a line isn't of the grammar. Where several hold of a line, the first of this list is told, and of the last six the one
-/// of the line's first bad field.
+/// Why a line isn't of the grammar. Where several hold of a line, the first of this list is told, and of the last six
+/// the one of the line's first bad field.
 #[derive(Clone, Copy, Debug, PartialEq, Eq, Drop)]
 pub enum Cause {
     /// It is the last line and has no newline.

@@ -1,9 +1,8 @@
 //! What a line gives.
 
 ghost use Rattle.std.specs.Prelude.{◌≡◌, IfOk};
-ghost use Rattle.dn_hist.specs.declared.calls.Call.TheVariants as asked;
 ghost use Rattle.dn_script.specs.Found.{said_by};
-ghost use Rattle.dn_script.specs.Meaning.{calling, meaning_of};
+ghost use Rattle.dn_script.specs.Meaning.{calling, putting, meaning_of};
 
 use crate::fields::Found;
 use crate::rows::Row;
@@ -44,7 +43,7 @@ fn calling(found: Found<'_>, call: Call) -> Meaning
 
 /// The line of a put.
 fn putting(alloc: Global, found: Found<'_>) -> Result<Meaning, OutOfMemory>
-    ensures { IfOk result (λ meaning. meaning ≡ calling (said_by found.entry) (asked.Put (said_by found.entry).key (said_by found.entry).value)) }
+    ensures { IfOk result (λ meaning. meaning ≡ putting (said_by found.entry)) }
 {
     match made(alloc, found.value) {
         Ok(value) => Ok(calling(

@@ -2,7 +2,7 @@ ghost use Rattle.std.specs.Prelude.{◌≡◌, ◌<◌, ◌≤◌, ◌+◌, ◌-
 ghost use Rattle.std.specs.List.{slice_split};
 ghost use Rattle.dn_script.specs.Fit.{IsIn, IsLine};
 ghost use Rattle.dn_script.specs.Played.{IsPlayed};
-ghost use Rattle.dn_script.specs.Script.{script_of, played, drafted, blank, with_meaning, rules_of, is_whole, line_count};
+ghost use Rattle.dn_script.specs.Script.{script_of, played, draft_in, with_meaning, rules_of, is_whole, line_count};
 ghost use Rattle.dn_script.specs.Sentence.{line_meaning};
 ghost use Rattle.dn_script.specs.Fault.{IsParseFault, IsDraftFault, Adds, draft_of, fault_at};
 ghost use Rattle.dn_script.specs.LineFault.{IsLineFault};
@@ -36,10 +36,11 @@ pub(crate) struct Draft {
     lines: Vec<Line>,
 }
 
-/// The script that these bytes are, of the lines that are played so far, for a pool of so many segments: [`parse_with`] with
-/// [`PLAYED`].
+/// The script that these bytes are, of the lines that are played so far, for a pool of so many segments:
+/// [`parse_with`] with [`PLAYED`].
 ///
-/// So far each line is a get or a put of the first session, and the script takes the lesser of 1,024 segments and the pool's.
+/// So far each line is a get or a put of the first session, and the script takes the lesser of 1,024 segments and the
+/// pool's.
 pub fn parse(alloc: Global, bytes: &[u8], mode: Mode, segments: u32) -> Result<Script, ParseFault>
     ensures script { IfOk result (λ script. script_of played mode segments bytes.now ≡ Ok script) }
     ensures count { IfOk result (λ script. line_count bytes.now ≤ 1000000) }
@@ -55,9 +56,9 @@ pub fn parse(alloc: Global, bytes: &[u8], mode: Mode, segments: u32) -> Result<S
 
 /// The script that these bytes are, of lines whose words are all among these verbs, for a pool of so many segments.
 ///
-/// `Lines` comes exactly where there are more than 1,000,000 lines, the last one counted even if it is cut off. `Bad` comes
-/// exactly where there are no more, and one isn't of the grammar in this mode: it names the first such line, and its first cause.
-/// Both unless memory is wanting.
+/// `Lines` comes exactly where there are more than 1,000,000 lines, the last one counted even if it is cut off. `Bad`
+/// comes exactly where there are no more, and one isn't of the grammar in this mode: it names the first such line,
+/// and its first cause. Both unless memory is wanting.
 pub fn parse_with(
     alloc: Global,
     bytes: &[u8],
@@ -65,7 +66,8 @@ pub fn parse_with(
     segments: u32,
     verbs: &[Verb],
 ) -> Result<Script, ParseFault>
-    ensures script { IfOk result (λ script. script_of verbs.now mode segments bytes.now ≡ Ok script) }
+    ensures script { IfOk result (λ script.
+        script_of verbs.now mode segments bytes.now ≡ Ok script) }
     ensures count { IfOk result (λ script. line_count bytes.now ≤ 1000000) }
     ensures fit { IfOk result (λ script. All IsLine script.lines) }
     ensures few { IfOk result (λ script. length script.lines ≤ length bytes.now) }
@@ -85,7 +87,8 @@ fn read_script(
     segments: u32,
     verbs: &[Verb],
 ) -> Result<Script, ParseFault>
-    ensures script { IfOk result (λ script. script_of verbs.now mode segments bytes.now ≡ Ok script) }
+    ensures script { IfOk result (λ script.
+        script_of verbs.now mode segments bytes.now ≡ Ok script) }
     ensures count { IfOk result (λ script. line_count bytes.now ≤ 1000000) }
     ensures bad { IfErr result (IsParseFault verbs.now mode segments bytes.now) }
 {
@@ -157,8 +160,11 @@ fn add_line(
     lines: &mut Vec<Line>,
     text: &[u8],
 ) -> Result<Header, LineFault>
-    ensures ok { IfOk result (λ after. Adds (line_meaning verbs.now rules header (nat_lt 0 (length lines.old.items)) text.now) header lines.old.items after lines.new.items) }
-    ensures bad { IfErr result (IsLineFault (line_meaning verbs.now rules header (nat_lt 0 (length lines.old.items)) text.now)) }
+    ensures ok { IfOk result (λ after. Adds
+        (line_meaning verbs.now rules header (nat_lt 0 (length lines.old.items)) text.now)
+        header lines.old.items after lines.new.items) }
+    ensures bad { IfErr result (IsLineFault
+        (line_meaning verbs.now rules header (nat_lt 0 (length lines.old.items)) text.now)) }
 {
     match line_meaning(alloc, verbs, rules, header, is_any(lines.as_slice()), text) {
         Ok(Some(meaning)) => add(header, lines, meaning),
@@ -169,7 +175,9 @@ fn add_line(
 
 /// Adds what a line gives to what those before it give.
 fn add(header: Header, lines: &mut Vec<Line>, meaning: Meaning) -> Result<Header, LineFault>
-    ensures ok { IfOk result (λ after. with_meaning (record { header = header; lines = lines.old.items }) (Some meaning) ≡ record { header = after; lines = lines.new.items }) }
+    ensures ok { IfOk result (λ after.
+        with_meaning (record { header = header; lines = lines.old.items }) (Some meaning)
+        ≡ record { header = after; lines = lines.new.items }) }
     ensures bad { IfErr result (λ fault. fault ≡ LineFault.OutOfMemory) }
 {
     match meaning {
@@ -207,8 +215,8 @@ fn fault_at(number: u64, fault: LineFault) -> ParseFault
 
 /// What the lines give.
 fn drafts(alloc: Global, verbs: &[Verb], rules: Rules, bytes: &[u8]) -> Result<Draft, ParseFault>
-    ensures ok { IfOk result (λ draft. drafted verbs.now rules 1 blank (slice_split (λ b. nat_eq b 10) bytes.now) ≡ Ok (draft_of draft)) }
-    ensures bad { IfErr result (IsDraftFault (drafted verbs.now rules 1 blank (slice_split (λ b. nat_eq b 10) bytes.now))) }
+    ensures ok { IfOk result (λ draft. draft_in verbs.now rules bytes.now ≡ Ok (draft_of draft)) }
+    ensures bad { IfErr result (IsDraftFault (draft_in verbs.now rules bytes.now)) }
 {
     let mut header = Header {
         segments: None,

@@ -10,11 +10,12 @@ pub enum Mode {
     Storm,
 }
 
-/// What a line asks for. A lane is from 1 to 63, a session from 1 to 1,000, a key any number but 0, a count of actions or
-/// turns from 1 to 1,000,000.
+/// What a line asks for. A lane is from 1 to 63, a session from 1 to 1,000, a key any number but 0, a count of
+/// actions or turns from 1 to 1,000,000.
 #[derive(Drop)]
 pub enum Line {
-    /// The call of this session. It is run to its answer, or with `start` it is only started. With a lane its first attempt goes there.
+    /// The call of this session. It is run to its answer, or with `start` it is only started. With a lane its first
+    /// attempt goes there.
     Call {
         session: u32,
         lane: Option<u8>,
@@ -107,11 +108,12 @@ pub enum Line {
     },
 }
 
-/// A script: what its header lines say, and what its other lines ask for, in order. Empty lines and lines that begin with `;`
-/// ask for nothing.
+/// A script: what its header lines say, and what its other lines ask for, in order. Empty lines and lines that begin
+/// with `;` ask for nothing.
 #[derive(Drop)]
 pub struct Script {
-    /// How many segments of the pool the script plays in: what `pool N` says, else the lesser of 1,024 and the pool's number.
+    /// How many segments of the pool the script plays in: what `pool N` says, else the lesser of 1,024 and the pool's
+    /// number.
     pub segments: u32,
     /// How many lanes there are at the opening, from 1 to 63: what `nodes N` says, else 1.
     pub nodes: u8,

@@ -141,8 +141,10 @@ fn judge(
     line: &[u8],
     row: Row,
 ) -> Result<Meaning, LineFault>
-    ensures ok { IfOk result (λ meaning. judged rules header is_late (fields_of line.now) row ≡ Ok meaning) }
-    ensures bad { IfErr result (IsLineFault (judged rules header is_late (fields_of line.now) row)) }
+    ensures ok { IfOk result (λ meaning.
+        judged rules header is_late (fields_of line.now) row ≡ Ok meaning) }
+    ensures bad { IfErr result (IsLineFault
+        (judged rules header is_late (fields_of line.now) row)) }
 {
     let found = match check(rules, header, is_late, line, row) {
         Ok(found) => found,
@@ -170,8 +172,10 @@ fn sentence(
     is_late: bool,
     line: &[u8],
 ) -> Result<Meaning, LineFault>
-    ensures ok { IfOk result (λ meaning. judged_by rules header is_late (fields_of line.now) (row_of verbs.now (fields_of line.now)) ≡ Ok (Some meaning)) }
-    ensures bad { IfErr result (IsLineFault (judged_by rules header is_late (fields_of line.now) (row_of verbs.now (fields_of line.now)))) }
+    ensures ok { IfOk result (λ meaning. judged_by rules header is_late (fields_of line.now)
+        (row_of verbs.now (fields_of line.now)) ≡ Ok (Some meaning)) }
+    ensures bad { IfErr result (IsLineFault (judged_by rules header is_late (fields_of line.now)
+        (row_of verbs.now (fields_of line.now)))) }
 {
     match row_of(verbs, line) {
         Some(row) => judge(alloc, rules, header, is_late, line, row),
@@ -179,8 +183,8 @@ fn sentence(
     }
 }
 
-/// What the line gives, without its newline: None where it is empty or begins with `;`. The header lines before it say this, and
-/// it is late where another line stands before it.
+/// What the line gives, without its newline: None where it is empty or begins with `;`. The header lines before it
+/// say this, and it is late where another line stands before it.
 pub(crate) fn line_meaning(
     alloc: Global,
     verbs: &[Verb],
@@ -189,8 +193,10 @@ pub(crate) fn line_meaning(
     is_late: bool,
     line: &[u8],
 ) -> Result<Option<Meaning>, LineFault>
-    ensures ok { IfOk result (λ meaning. line_meaning verbs.now rules header is_late line.now ≡ Ok meaning) }
-    ensures bad { IfErr result (IsLineFault (line_meaning verbs.now rules header is_late line.now)) }
+    ensures ok { IfOk result (λ meaning.
+        line_meaning verbs.now rules header is_late line.now ≡ Ok meaning) }
+    ensures bad { IfErr result (IsLineFault
+        (line_meaning verbs.now rules header is_late line.now)) }
 {
     if line.len() > MAX_LINE {
         return Err(LineFault::Bad(Cause::Long));

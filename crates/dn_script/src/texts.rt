@@ -9,7 +9,8 @@ ghost use Rattle.dn_script.specs.Number.{is_within, is_digit, fitting, number_of
 /// Where the first part of the text ends, of those that this byte keeps apart: None where there is one part.
 pub(crate) fn end_of_first(text: &[u8], apart: u8) -> Option<usize>
     ensures within { IfSome result (λ end. end < length text.now) }
-    ensures parts { IfSome result (λ end. slice_split (λ b. nat_eq b apart) text.now ≡ take end text.now ∷ slice_split (λ b. nat_eq b apart) (drop (end + 1) text.now)) }
+    ensures parts { IfSome result (λ end. slice_split (λ b. nat_eq b apart) text.now
+        ≡ take end text.now ∷ slice_split (λ b. nat_eq b apart) (drop (end + 1) text.now)) }
     ensures one { IfNone result (slice_split (λ b. nat_eq b apart) text.now ≡ text.now ∷ []) }
 {
     place_of(text, apart)
@@ -85,7 +86,8 @@ fn number(digits: &[u8]) -> Option<u64>
 fn numeral(field: &[u8]) -> Option<u64>
     ensures value { result ≡ numeral_of field.now }
     ensures decimal { IfSome result (λ number. field.now ≡ decimal number) }
-    ensures spelled { (number : ℕ) → number < 2 ^ 64 → field.now ≡ decimal number → result ≡ Some number }
+    ensures spelled { (number : ℕ) → number < 2 ^ 64 → field.now ≡ decimal number
+        → result ≡ Some number }
 {
     if is_empty_or_padded(field) {
         None
