@@ -1,8 +1,9 @@
-use Rattle.std.specs.Prelude.{◌≡◌, ℕ, ◌++◌, List, Option, Some, Result, Ok, Err, length, nat_lt, if◌then◌else◌}
+use Rattle.std.specs.Prelude.{◌≡◌, ℕ, ◌++◌, ◌||◌, Bool, List, Option, Some, Result, Ok, Err, length, nat_lt, if◌then◌else◌}
 use Rattle.dn_io.specs.declared.statuses.Status.{Status}
 use Rattle.dn_io.specs.declared.statuses.Status.TheVariants as status
-use Rattle.dn_script.specs.declared.scripts.Line.{Line}
-use Rattle.dn_script.specs.Script.{BadLine, script_of}
+use Rattle.dn_script.specs.declared.scripts.Mode.TheVariants as mode
+use Rattle.dn_script.specs.declared.scripts.Script.{Script}
+use Rattle.dn_script.specs.Script.{BadLine, script_of, line_count, played}
 use Rattle.dinomo.specs.declared.playing.InputFault.{InputFault}
 use Rattle.dinomo.specs.declared.playing.InputFault.TheVariants as fault
 
@@ -10,36 +11,43 @@ use Rattle.dinomo.specs.declared.playing.InputFault.TheVariants as fault
 pub data Verdict : Type 0 where
   Long : Verdict
   Bad : BadLine → Verdict
-  Played : List Line → Verdict
+  Played : Script → Verdict
 
-abbrev pub judged : Result (List Line) BadLine → Verdict
-judged (Ok lines) = Played lines
+abbrev pub judged : Result Script BadLine → Verdict
+judged (Ok script) = Played script
 judged (Err bad) = Bad bad
 
--- more than 67,108,864 bytes are too long, whatever they say
-abbrev pub verdict_of : List ℕ → Verdict
-verdict_of bytes = if nat_lt 67108864 (length bytes) then Long else judged (script_of bytes)
+-- the script that bytes are, of the lines that are played so far, for a pool of so many segments
+abbrev pub scripted : ℕ → List ℕ → Result Script BadLine
+scripted segments bytes = script_of played mode.Play segments bytes
+
+-- more than 67,108,864 bytes or 1,000,000 lines are too long, whatever they say
+abbrev pub is_long : List ℕ → Bool
+is_long bytes = nat_lt 67108864 (length bytes) || nat_lt 1000000 (line_count bytes)
+
+abbrev pub verdict_of : ℕ → List ℕ → Verdict
+verdict_of segments bytes = if is_long bytes then Long else judged (scripted segments bytes)
 
 abbrev pub IsLong : Verdict → Type 0
 IsLong Long = Unit {0}
 IsLong (Bad bad) = ⊥
-IsLong (Played lines) = ⊥
+IsLong (Played script) = ⊥
 
 abbrev pub IsBad : Verdict → Type 0
 IsBad Long = ⊥
 IsBad (Bad bad) = Unit {0}
-IsBad (Played lines) = ⊥
+IsBad (Played script) = ⊥
 
 abbrev pub IsPlayed : Verdict → Type 0
 IsPlayed Long = ⊥
 IsPlayed (Bad bad) = ⊥
-IsPlayed (Played lines) = Unit {0}
+IsPlayed (Played script) = Unit {0}
 
 -- there is something to write
 abbrev pub HasOutput : Verdict → Type 0
 HasOutput Long = ⊥
 HasOutput (Bad bad) = Unit {0}
-HasOutput (Played lines) = Unit {0}
+HasOutput (Played script) = Unit {0}
 
 -- The status that a verdict allows: the one for it; a read fault or want of memory at any time; a write fault where there is
 -- something to write; a pool fault where the script is played.

@@ -5,22 +5,23 @@ ghost use Rattle.dn_act.specs.Words.{IsZeros, pool_size};
 ghost use Rattle.std.specs.Io.KnownBytes.{IsAtEnd};
 ghost use Rattle.dn_io.specs.Rose.{Rose};
 ghost use Rattle.dn_io.specs.Whole.{WroteFront};
-ghost use Rattle.dn_script.specs.Fit.{IsLine};
-ghost use Rattle.dn_script.specs.Script.{script_of, name_of, BadLine};
-ghost use Rattle.dn_script.specs.declared.scripts.Line.{Line as LineOf};
+ghost use Rattle.dn_script.specs.Played.{IsPlayed as IsPlayedLine};
+ghost use Rattle.dn_script.specs.Bad.{name_of};
+ghost use Rattle.dn_script.specs.Script.{line_count, BadLine};
+ghost use Rattle.dn_script.specs.declared.scripts.Script.{Script as ScriptOf};
 ghost use Rattle.dn_print.specs.RefusalLine.{bad_line_text};
-ghost use Rattle.dinomo.specs.Pool.{IsPoolSize, segments_of};
+ghost use Rattle.dinomo.specs.Pool.{IsPoolSize, pool_segments, segments_of};
 ghost use Rattle.dn_world.specs.Playing.{CallsLine};
 ghost use Rattle.dn_world.specs.Run.{IsRun};
 ghost use Rattle.dn_world.specs.Stopped.{StopsLine, IsStopped, CountsStop};
 ghost use Rattle.dinomo.specs.Plays.{Plays};
-ghost use Rattle.dinomo.specs.Verdict.{verdict_of, Meets, IsInputFault, IsPlayed, Writes, LeavesPool, LeavesSink};
+ghost use Rattle.dinomo.specs.Verdict.{scripted, verdict_of, Meets, IsInputFault, IsPlayed, Writes, LeavesPool, LeavesSink};
 ghost use Rattle.dinomo.specs.Headline.{WritesRun, WritesPart, LeavesRun, LeavesStopped, EndsPlay, IsStop};
 
 use dn_act::Memory;
 use dn_io::{ReadAllFault, Sink, Source, Status, read_all, write_all};
 use dn_print::bad_line;
-use dn_script::{Cause, Line, ParseFault, Script, parse};
+use dn_script::{Cause, Line, Mode, ParseFault, Script, parse};
 use dn_word::regions::{SEGMENT_WORDS, SEGMENTS_AT};
 use dn_world::{Stop, World};
 use std::alloc::Global;
@@ -45,13 +46,13 @@ fn read_script<S: Source>(
 ) -> Result<Script, InputFault>
     ensures segments { IfOk result (λ script. script.segments ≡ min 1024 segments) }
     ensures ok { IfOk result (λ script. (left : List ℕ) → S.left source.old ≡ Some left
-        → IsPlayed (verdict_of left)) }
-    ensures lines { IfOk result (λ script. (left : List ℕ) → S.left source.old ≡ Some left
-        → script_of left ≡ Ok script.lines) }
-    ensures fit { IfOk result (λ script. All IsLine script.lines) }
+        → IsPlayed (verdict_of segments left)) }
+    ensures script { IfOk result (λ script. (left : List ℕ) → S.left source.old ≡ Some left
+        → scripted segments left ≡ Ok script) }
+    ensures fit { IfOk result (λ script. All IsPlayedLine script.lines) }
     ensures few { IfOk result (λ script. length script.lines ≤ 67108864) }
     ensures fault { IfErr result (λ fault. (left : List ℕ) → S.left source.old ≡ Some left
-        → IsInputFault fault (verdict_of left)) }
+        → IsInputFault fault (verdict_of segments left)) }
     ensures end { OnOk result (IsAtEnd (S.left source.new)) }
     ensures cause { IsErrOf result InputFault.Read
         → Rose (S.faults source.old) (S.faults source.new) }
@@ -65,9 +66,10 @@ fn read_script<S: Source>(
         Err(ReadAllFault::Long) => return Err(InputFault::Long),
         Err(ReadAllFault::OutOfMemory) => return Err(InputFault::OutOfMemory),
     };
-    match parse(alloc, bytes.as_slice(), segments) {
+    match parse(alloc, bytes.as_slice(), Mode::Play, segments) {
         Ok(script) => Ok(script),
         Err(ParseFault::Bad { line, cause }) => Err(InputFault::Bad { line, cause }),
+        Err(ParseFault::Lines) => Err(InputFault::Long),
         Err(ParseFault::OutOfMemory) => Err(InputFault::OutOfMemory),
     }
 }
@@ -81,6 +83,7 @@ fn call_line<M: Memory>(
 ) -> Result<(), Stop>
     requires size { pool_size world.old.lane.log.pool ≤ length (M.words pool.old) }
     requires idle { world.old.lane.work ≡ None }
+    requires played { IsPlayedLine line.now }
     ensures stopped { OnErr result (StopsLine (M.words pool.old) world.old line.now
         (M.words pool.new)) }
     ensures calls { OnOk result (CallsLine (M.words pool.old) world.old line.now out.old.items
@@ -91,7 +94,8 @@ fn call_line<M: Memory>(
     ensures count { CountsStop result (M.faults pool.old) (M.faults pool.new) }
 {
     match line {
-        Line::Call { session, call } => world.call(pool, out, *session, call),
+        Line::Call { session, call, .. } => world.call(pool, out, *session, call),
+        _ => Ok(()),
     }
 }
 
@@ -106,7 +110,7 @@ fn perform<M: Memory>(
     requires segments { script.now.segments ≤ 8192 }
     requires size { pool_size script.now.segments ≤ length (M.words pool.old) }
     requires zeros { IsZeros (M.words pool.old) }
-    requires fit { All IsLine script.now.lines }
+    requires fit { All IsPlayedLine script.now.lines }
     requires few { length script.now.lines ≤ 67108864 }
     requires empty { out.old.items ≡ [] }
     ensures run { OnOk result (IsRun script.now.segments script.now.lines (M.words pool.new)
@@ -151,7 +155,7 @@ fn play_script<K: Sink, M: Memory>(
     requires segments { script.now.segments ≤ 8192 }
     requires size { pool_size script.now.segments ≤ length (M.words pool.old) }
     requires zeros { IsZeros (M.words pool.old) }
-    requires fit { All IsLine script.now.lines }
+    requires fit { All IsPlayedLine script.now.lines }
     requires few { length script.now.lines ≤ 67108864 }
     ensures ends { EndsPlay result }
     ensures ok { result ≡ Status.Ok → WritesRun script.now.segments script.now.lines
@@ -220,30 +224,35 @@ fn play_source<S: Source, K: Sink, M: Memory>(
 ) -> Status
     requires size { IsPoolSize (length (M.words pool.old)) }
     requires zeros { IsZeros (M.words pool.old) }
-    ensures headline { result ≡ Status.Ok → (left : List ℕ) (lines : List LineOf)
-        → S.left source.old ≡ Some left → script_of left ≡ Ok lines
-        → WritesRun (segments_of (length (M.words pool.old))) lines (M.words pool.new)
+    ensures headline { result ≡ Status.Ok → (left : List ℕ) (script : ScriptOf)
+        → S.left source.old ≡ Some left → scripted (pool_segments (length (M.words pool.old))) left
+        ≡ Ok script
+        → WritesRun script.segments script.lines (M.words pool.new)
         (K.written sink.old) (K.written sink.new) }
-    ensures headline_part { result ≡ Status.WriteFault → (left : List ℕ) (lines : List LineOf)
-        → S.left source.old ≡ Some left → script_of left ≡ Ok lines
-        → WritesPart (segments_of (length (M.words pool.old))) lines (M.words pool.new)
+    ensures headline_part { result ≡ Status.WriteFault → (left : List ℕ) (script : ScriptOf)
+        → S.left source.old ≡ Some left → scripted (pool_segments (length (M.words pool.old))) left
+        ≡ Ok script
+        → WritesPart script.segments script.lines (M.words pool.new)
         (K.written sink.old) (K.written sink.new) }
-    ensures stopped { IsStop result → (left : List ℕ) (lines : List LineOf)
-        → S.left source.old ≡ Some left → script_of left ≡ Ok lines
-        → IsStopped (segments_of (length (M.words pool.old))) lines (M.words pool.new) }
-    ensures complete { (left : List ℕ) (lines : List LineOf) → S.left source.old ≡ Some left
-        → length left ≤ 67108864 → script_of left ≡ Ok lines
+    ensures stopped { IsStop result → (left : List ℕ) (script : ScriptOf)
+        → S.left source.old ≡ Some left → scripted (pool_segments (length (M.words pool.old))) left
+        ≡ Ok script
+        → IsStopped script.segments script.lines (M.words pool.new) }
+    ensures complete { (left : List ℕ) (script : ScriptOf) → S.left source.old ≡ Some left
+        → length left ≤ 67108864 → line_count left ≤ 1000000
+        → scripted (pool_segments (length (M.words pool.old))) left ≡ Ok script
         → (Rose (S.faults source.old) (S.faults source.new) → ⊥)
         → (Rose (K.faults sink.old) (K.faults sink.new) → ⊥)
         → M.faults pool.new ≡ M.faults pool.old → (result ≡ Status.Ok)
         ⊎ (result ≡ Status.OutOfMemory) }
     ensures end { result ≡ Status.Ok → IsAtEnd (S.left source.new) }
     ensures bad_part { result ≡ Status.WriteFault → (left : List ℕ) (bad : BadLine)
-        → S.left source.old ≡ Some left → script_of left ≡ Err bad
+        → S.left source.old ≡ Some left → scripted (pool_segments (length (M.words pool.old))) left
+        ≡ Err bad
         → WroteFront (K.written sink.old) (K.written sink.new)
         (bad_line_text bad.line (name_of bad.cause)) }
     ensures script { (left : List ℕ) → S.left source.old ≡ Some left
-        → Meets result (verdict_of left) }
+        → Meets result (verdict_of (pool_segments (length (M.words pool.old))) left) }
     ensures words { result ≢ Status.BadWords }
     ensures index { result ≢ Status.IndexFull }
     ensures read_fault { result ≡ Status.ReadFault
@@ -256,11 +265,13 @@ fn play_source<S: Source, K: Sink, M: Memory>(
     ensures pool_fault { result ≡ Status.PoolFault → M.faults pool.old < M.faults pool.new }
     ensures no_fault { result ≢ Status.PoolFault → M.faults pool.new ≡ M.faults pool.old }
     ensures unplayed { (left : List ℕ) → S.left source.old ≡ Some left
-        → (IsPlayed (verdict_of left) → ⊥) → M.words pool.new ≡ M.words pool.old }
+        → (IsPlayed (verdict_of (pool_segments (length (M.words pool.old))) left) → ⊥)
+        → M.words pool.new ≡ M.words pool.old }
     ensures untouched { LeavesPool result → M.words pool.new ≡ M.words pool.old }
     ensures unwritten { LeavesSink result → K.written sink.new ≡ K.written sink.old }
     ensures bad_line { result ≡ Status.BadScript → (left : List ℕ) (bad : BadLine)
-        → S.left source.old ≡ Some left → script_of left ≡ Err bad
+        → S.left source.old ≡ Some left → scripted (pool_segments (length (M.words pool.old))) left
+        ≡ Err bad
         → Writes (K.written sink.old) (K.written sink.new)
         (bad_line_text bad.line (name_of bad.cause)) }
     ensures leaves_run { result ≡ Status.Ok → LeavesRun (segments_of (length (M.words pool.old)))

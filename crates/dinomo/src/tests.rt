@@ -93,7 +93,23 @@ fn scripts_end_by_their_status(rt: HostRuntime) -> Result<(), Fail> {
             0,
             0,
             Status::BadScript,
-            "line 3: verb\n",
+            "line 3: key\n",
+        ),
+        (
+            "play",
+            "c1 put 5 #65*1025\n",
+            0,
+            0,
+            Status::BadScript,
+            "line 1: value\n",
+        ),
+        (
+            "play",
+            "pool 5\n",
+            0,
+            0,
+            Status::BadScript,
+            "line 1: verb\n",
         ),
         ("play", FIRST, 1, 0, Status::ReadFault, ""),
         ("play", FIRST, 0, 1, Status::WriteFault, ""),
@@ -134,7 +150,7 @@ fn a_value_has_at_most_1024_bytes(rt: HostRuntime) -> Result<(), Fail> {
     let more = puts(rt.alloc(), 1, 1025)?;
     let ended = run_word(rt.alloc(), "play", more.as_slice(), 1024, 0, 0)?;
     assert_eq!(rt; ended.status, Status::BadScript);
-    assert_eq!(rt; ended.sink.bytes(), b"line 1: verb\n".as_slice());
+    assert_eq!(rt; ended.sink.bytes(), b"line 1: value\n".as_slice());
     assert!(rt; has_word(&ended.pool, 0, 0));
     Ok(())
 }
@@ -288,6 +304,25 @@ fn a_failed_access_of_the_pool_ends_the_play(rt: HostRuntime) -> Result<(), Fail
     assert!(rt; faults_at(rt.alloc(), 1)?, "the format word");
     assert!(rt; faults_at(rt.alloc(), 129)?, "the last grant");
     assert!(rt; faults_at(rt.alloc(), 142)?, "an action of the first get");
+    Ok(())
+}
+
+#[test]
+fn values_are_read_in_three_forms(rt: HostRuntime) -> Result<(), Fail> {
+    let script = b"c1 put 5 %61\nc1 get 5\nc1 put 5 #0*2\nc1 get 5\n";
+    let ended = run_word(rt.alloc(), "play", script, 1, 0, 0)?;
+    let text = b"c1 1 stored 1.0.1\nc1 2 =a 1.1.1\nc1 3 stored 2.0.1\nc1 4 %0000 2.1.1\n";
+    assert!(rt; ended.sink.bytes().starts_with(text));
+    Ok(())
+}
+
+#[test]
+fn more_than_1000000_lines_are_too_long(rt: HostRuntime) -> Result<(), Fail> {
+    let script = vec![in rt.alloc(); b'\n'; 1_000_001]?;
+    let ended = run_word(rt.alloc(), "play", script.as_slice(), 1, 0, 0)?;
+    assert_eq!(rt; ended.status, Status::TooLong);
+    assert_eq!(rt; ended.sink.bytes(), b"".as_slice());
+    assert!(rt; has_word(&ended.pool, 0, 0));
     Ok(())
 }
 

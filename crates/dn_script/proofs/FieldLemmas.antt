@@ -4,7 +4,7 @@ use Rattle.std.proofs.lemmas.List.Splits.{slice_split_first, slice_split_none}
 use Rattle.std.proofs.lemmas.List.{drop_all}
 use Rattle.std.proofs.lemmas.List.Sums.{fails_before_first}
 use Rattle.std.specs.List.{position, position_or_len, slice_split, list_all}
-use Rattle.dn_script.specs.Field.{is_digit, fitting}
+use Rattle.dn_script.specs.Number.{is_digit, fitting}
 
 -- ---- parts
 

@@ -1,4 +1,9 @@
 mod DecimalLemmas
-pub mod FitLemmas
+mod DraftLemmas
 mod FieldLemmas
-mod ScriptLemmas
+pub mod LineFits
+mod PartLemmas
+pub mod PlayedLemmas
+mod SaidFits
+mod ValueFits
+mod Walks

@@ -1,6 +1,15 @@
+pub mod Bad
 pub mod Fault
-pub mod Field
+pub mod Fit
+pub mod Found
 pub mod LineFault
+pub mod Meaning
+pub mod Number
+pub mod Played
+pub mod Said
 pub mod Script
 pub mod Sentence
-pub mod Fit
+pub mod Spelled
+pub mod Table
+pub mod Value
+pub mod Word

@@ -1,90 +1,240 @@
-//! The parts of bytes, and what stands in a field.
+//! The fields of a line against the parts of a row.
 
-ghost use Rattle.std.specs.Prelude.{◌≡◌, ◌<◌, ◌≤◌, ◌+◌, ◌^◌, ◌∷◌, [], ℕ, Some, nat_eq, drop, take, length, position, IfSome, IfNone};
-ghost use Rattle.std.specs.List.{slice_split, list_all};
-ghost use Rattle.std.specs.Option.{option_copied};
-ghost use Rattle.std.specs.Fmt.{decimal};
-ghost use Rattle.std.specs.Cmp.Lexicographic.{pointwise};
-ghost use Rattle.dn_script.specs.Field.{is_within, is_digit, fitting, number_of, key_of, value_of};
+ghost use Rattle.std.specs.Prelude.{◌≡◌, ◌∷◌};
+ghost use Rattle.dn_script.specs.Sentence.{fields_of, is_session, looks_like, begins};
+ghost use Rattle.dn_script.specs.Said.{with_word, with_number, with_field, reading, unsaid};
+ghost use Rattle.dn_script.specs.Found.{left_of, said_by, said_in};
 
-use dn_word::MAX_BYTES;
+use crate::faults::Cause;
+use crate::rows::Part;
+use crate::scripts::Mode;
+use crate::texts::{
+    are_digits, behind, behind_first, end_of_first, is_led_by, is_word, number_in, small_in,
+    tiny_in,
+};
+use crate::values::value;
+use crate::verbs::Verb;
 
-/// Where the first part of the text ends, of those that this byte keeps apart: None where there is one part.
-pub(crate) fn end_of_first(text: &[u8], apart: u8) -> Option<usize>
-    ensures within { IfSome result (λ end. end < length text.now) }
-    ensures parts { IfSome result (λ end. slice_split (λ b. nat_eq b apart) text.now ≡ take end text.now ∷ slice_split (λ b. nat_eq b apart) (drop (end + 1) text.now)) }
-    ensures one { IfNone result (slice_split (λ b. nat_eq b apart) text.now ≡ text.now ∷ []) }
-{
-    place_of(text, apart)
+/// What lines may have.
+#[derive(Clone, Copy, Drop)]
+pub(crate) struct Rules {
+    pub(crate) mode: Mode,
+    /// The most segments of the pool.
+    pub(crate) segments: u32,
+    /// The greatest session.
+    pub(crate) sessions: u32,
 }
 
-/// What stands behind the place.
-pub(crate) fn behind(text: &[u8], place: usize) -> &[u8]
-    requires { place < length text.now }
-    ensures { result.now ≡ drop (place + 1) text.now }
-{
-    &text[place + 1..]
+/// What the fields of a line say, by name.
+#[derive(Clone, Copy, Drop)]
+pub(crate) struct Found<'a> {
+    pub(crate) session: u32,
+    pub(crate) named: Option<u8>,
+    pub(crate) start: bool,
+    pub(crate) lane: u8,
+    pub(crate) key: u64,
+    /// The field of the value.
+    pub(crate) value: &'a [u8],
+    pub(crate) segments: u32,
+    pub(crate) nodes: u8,
+    pub(crate) units: u32,
+    pub(crate) count: u32,
+    pub(crate) index: u32,
+    pub(crate) from: u32,
+    pub(crate) to: u32,
 }
 
-/// The first place of the byte.
-fn place_of(text: &[u8], byte: u8) -> Option<usize>
-    ensures value { result ≡ position (λ b. nat_eq b byte) text.now }
-    ensures within { IfSome result (λ place. place < length text.now) }
+/// Before a field was read.
+fn unread<'a>() -> Found<'a>
+    ensures { said_by result ≡ unsaid }
 {
-    text.iter().position(|b| *b == byte)
-}
-
-/// Whether all bytes lie from this one to `~`.
-pub(crate) fn are_within(bytes: &[u8], least: u8) -> bool
-    ensures { result ≡ list_all (is_within least 126) bytes.now }
-{
-    bytes.iter().all(|b| least <= *b && *b <= b'~')
-}
-
-/// Whether the bytes are those of the word.
-pub(crate) fn is_word(bytes: &[u8], word: &[u8]) -> bool
-    ensures { result ≡ pointwise nat_eq bytes.now word.now }
-{
-    bytes == word
-}
-
-/// The number that the digits write, where all are digits and it is below 2^64.
-fn number(digits: &[u8]) -> Option<u64>
-    ensures { result ≡ fitting (list_all is_digit digits.now) (number_of digits.now) }
-{
-    let mut value: u64 = 0;
-    for digit in digits {
-        if *digit < b'0' || *digit > b'9' {
-            return None;
-        }
-        value = value.checked_mul(10)?.checked_add((*digit - b'0') as u64)?;
+    Found {
+        session: 1,
+        named: None,
+        start: false,
+        lane: 1,
+        key: 1,
+        value: b"=",
+        segments: 1,
+        nodes: 1,
+        units: 4096,
+        count: 1,
+        index: 0,
+        from: 1,
+        to: 1,
     }
-    Some(value)
 }
 
-/// The key in the field: the field is what the key prints as.
-pub(crate) fn key(field: &[u8]) -> Option<u64>
-    ensures value { result ≡ key_of field.now }
-    ensures decimal { IfSome result (λ key. field.now ≡ decimal key) }
-    ensures spelled { (key : ℕ) → 0 < key → key < 2 ^ 64 → field.now ≡ decimal key → result ≡ Some key }
+/// The first field of a text, and what stands behind it.
+fn first_of(text: &[u8]) -> (&[u8], Option<&[u8]>)
+    ensures { fields_of text.now ≡ result.0.now ∷ left_of result.1 }
 {
-    if field.is_empty() || field[0] == b'0' {
-        return None;
+    match end_of_first(text, b' ') {
+        Some(end) => (&text[..end], Some(behind(text, end))),
+        None => (text, None),
     }
-    number(field)
 }
 
-/// The bytes of the value in the field.
-pub(crate) fn value(field: &[u8]) -> Option<&[u8]>
-    ensures value { option_copied result ≡ value_of field.now }
-    ensures short { IfSome result (λ bytes. length bytes.now ≤ 1024) }
+/// Whether the field is `c` and digits.
+fn is_session(field: &[u8]) -> bool
+    ensures { result ≡ is_session field.now }
 {
-    if field.is_empty() || field[0] != b'=' {
-        return None;
+    is_led_by(field, b'c') && field.len() > 1 && are_digits(behind_first(field))
+}
+
+/// Whether the field looks like the part.
+fn looks_like(part: Part, field: &[u8]) -> bool
+    ensures { result ≡ looks_like part field.now }
+{
+    match part {
+        Part::Word(verb) => is_word(field, verb.word()),
+        Part::Session => is_session(field),
+        Part::Named => is_led_by(field, b'@'),
+        _ => true,
     }
-    let bytes = &field[1..];
-    if bytes.len() > MAX_BYTES || !are_within(bytes, b'!') {
-        return None;
+}
+
+/// Whether the fields that are left look like the parts.
+fn begins_on(parts: &[Part], rest: Option<&[u8]>) -> bool
+    ensures { result ≡ begins parts.now (left_of rest.entry) }
+{
+    let [part, parts @ ..] = parts else {
+        return true;
+    };
+    let Some(text) = rest else {
+        return true;
+    };
+    let (field, more) = first_of(text);
+    looks_like(*part, field) && begins_on(parts, more)
+}
+
+/// Whether the line begins as the parts do.
+pub(crate) fn begins(parts: &[Part], line: &[u8]) -> bool
+    ensures { result ≡ begins parts.now (fields_of line.now) }
+{
+    begins_on(parts, Some(line))
+}
+
+/// What was found, with what this word says.
+fn with_word(verb: Verb, found: Found<'_>) -> Found<'_>
+    ensures { said_by result ≡ with_word verb (said_by found.entry) }
+{
+    match verb {
+        Verb::Start => Found {
+            start: true,
+            ..found
+        },
+        _ => found,
     }
-    Some(bytes)
+}
+
+/// What was found, with what the field of this part says.
+fn with_field<'a>(
+    rules: Rules,
+    part: Part,
+    field: &'a [u8],
+    found: Found<'a>,
+) -> Result<Found<'a>, Cause>
+    ensures { said_in result ≡ with_field rules part field.now (said_by found.entry) }
+{
+    match part {
+        Part::Word(verb) => Ok(with_word(verb, found)),
+        Part::Session => match small_in(1, rules.sessions, behind_first(field)) {
+            Some(session) => Ok(Found { session, ..found }),
+            None => Err(Cause::Session),
+        },
+        Part::Named => match tiny_in(1, 63, behind_first(field)) {
+            Some(lane) => Ok(Found {
+                named: Some(lane),
+                ..found
+            }),
+            None => Err(Cause::Lane),
+        },
+        Part::Lane => match tiny_in(1, 63, field) {
+            Some(lane) => Ok(Found { lane, ..found }),
+            None => Err(Cause::Lane),
+        },
+        Part::Key => match number_in(1, u64::MAX, field) {
+            Some(key) => Ok(Found { key, ..found }),
+            None => Err(Cause::Key),
+        },
+        Part::Value => match value(field) {
+            Some(_) => Ok(Found {
+                value: field,
+                ..found
+            }),
+            None => Err(Cause::Value),
+        },
+        Part::Segments => match small_in(1, rules.segments, field) {
+            Some(segments) => Ok(Found { segments, ..found }),
+            None => Err(Cause::Pool),
+        },
+        Part::From => match small_in(1, rules.sessions, field) {
+            Some(from) => Ok(Found { from, ..found }),
+            None => Err(Cause::Session),
+        },
+        Part::To => match small_in(1, rules.sessions, field) {
+            Some(to) => Ok(Found { to, ..found }),
+            None => Err(Cause::Session),
+        },
+        _ => with_number(part, field, found),
+    }
+}
+
+/// The same for the parts whose fault is `number`.
+fn with_number<'a>(part: Part, field: &[u8], found: Found<'a>) -> Result<Found<'a>, Cause>
+    ensures { said_in result ≡ with_number part field.now (said_by found.entry) }
+{
+    match part {
+        Part::Nodes => match tiny_in(1, 63, field) {
+            Some(nodes) => Ok(Found { nodes, ..found }),
+            None => Err(Cause::Number),
+        },
+        Part::Units => match small_in(0, 1_000_000, field) {
+            Some(units) => Ok(Found { units, ..found }),
+            None => Err(Cause::Number),
+        },
+        Part::Count => match small_in(1, 1_000_000, field) {
+            Some(count) => Ok(Found { count, ..found }),
+            None => Err(Cause::Number),
+        },
+        Part::Actions => match small_in(1, 1_000_000, field) {
+            Some(count) => Ok(Found { count, ..found }),
+            None => Err(Cause::Number),
+        },
+        Part::Index => match small_in(0, 139, field) {
+            Some(index) => Ok(Found { index, ..found }),
+            None => Err(Cause::Number),
+        },
+        _ => Err(Cause::Number),
+    }
+}
+
+/// What was found, with what the fields that are left say, whose parts are these, or the cause of the first bad one.
+fn read_on<'a>(
+    rules: Rules,
+    parts: &[Part],
+    rest: Option<&'a [u8]>,
+    found: Found<'a>,
+) -> Result<Found<'a>, Cause>
+    ensures { said_in result ≡ reading rules parts.now (left_of rest.entry) (said_by found.entry) }
+{
+    let [part, parts @ ..] = parts else {
+        return Ok(found);
+    };
+    let Some(text) = rest else {
+        return Ok(found);
+    };
+    let (field, more) = first_of(text);
+    match with_field(rules, *part, field, found) {
+        Ok(found) => read_on(rules, parts, more, found),
+        Err(cause) => Err(cause),
+    }
+}
+
+/// What the fields of a line say, whose parts are these, or the cause of the first bad one.
+pub(crate) fn read<'a>(rules: Rules, parts: &[Part], line: &'a [u8]) -> Result<Found<'a>, Cause>
+    ensures { said_in result ≡ reading rules parts.now (fields_of line.now) unsaid }
+{
+    read_on(rules, parts, Some(line), unread())
 }

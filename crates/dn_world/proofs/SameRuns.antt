@@ -1,4 +1,4 @@
-use Rattle.std.proofs.Common.{◌≡◌, ◌≤◌, ◌+◌, ◌*◌, ℕ, ◌&&◌, ◌||◌, Bool, nat_eq, min, if◌then◌else◌, List, [], ◌∷◌, ◌++◌, Option, None, All, refl, ap, sym, ◌∙◌, subst, arith}
+use Rattle.std.proofs.Common.{◌≡◌, ◌≤◌, ◌+◌, ◌*◌, ℕ, ◌&&◌, ◌||◌, Bool, nat_eq, min, if◌then◌else◌, List, [], ◌∷◌, ◌++◌, Option, Some, None, All, refl, ap, sym, ◌∙◌, subst, arith}
 use Rattle.std.proofs.lemmas.List.Elements.{All-head, All-tail}
 use Rattle.std.proofs.lemmas.Option.{same_Some}
 use Rattle.dn_word.specs.declared.positions.Position.{Position}
@@ -11,13 +11,13 @@ use Rattle.dn_lane.specs.declared.answers.Way.{Way}
 use Rattle.dn_lane.specs.declared.answers.Way.TheVariants.{Pending, Index}
 use Rattle.dn_model.specs.Register.{is_write}
 use Rattle.dn_script.specs.declared.scripts.Line.{Line}
-use Rattle.dn_script.specs.declared.scripts.Line.TheVariants.{Call}
+use Rattle.dn_script.specs.Played.{Asked, asked_in}
 use Rattle.dn_core.specs.Placing.{position_of}
 use Rattle.dn_core.specs.Sound.{IsFull, IsWayOf}
 use Rattle.dn_core.specs.Written.{len_with, len_from, has_record}
 use Rattle.dn_world.specs.Course.{EndsBy, AreEnded, IsNext, ArePlaced}
 use Rattle.dn_world.specs.Ended.{End, Made, Full, Ended, with_receipt, receipts_of, IsReceiptIn, HasItsReceipt}
-use Rattle.dn_world.specs.Run.{AreCalled}
+use Rattle.dn_world.specs.Run.{EndsAsked, AreCalled}
 
 -- Two runs of the same lines end alike: but for the place of a record, and for the way of a put or a delete, each call ends as
 -- it does in the other.
@@ -164,17 +164,27 @@ same_ended e f es fs s n c both =
     λ i. (record { session = s i; number = n i; call = c i; end = first i }) ∷ rest i
 
 -- ---- all calls of the lines
+pub record IsSameCall (e f : Ended) : Type 0 where
+  pub session : e.session ≡ f.session
+  pub number : e.number ≡ f.number
+  pub call : e.call ≡ f.call
+
+same_asked : (asked : Option Asked) (number : ℕ) (e f : Ended) → EndsAsked asked number e → EndsAsked asked number f → IsSameCall e f
+same_asked None number e f a b = absurd a
+same_asked (Some asked) number e f a b = record { session = a.0 ∙ sym b.0; number = a.1 ∙ sym b.1; call = a.2 ∙ sym b.2 }
+
 same_from : (pool number : ℕ) (lines : List Line) (es fs : List Ended) → AreCalled number lines es → AreCalled number lines fs → EndAlike pool es fs
 same_from pool number [] [] [] a b before prior last m e g h = refl
 same_from pool number [] [] (y ∷ fs) a b before prior last m e g h = absurd b
 same_from pool number [] (x ∷ es) fs a b before prior last m e g h = absurd a
 same_from pool number (line ∷ lines) [] fs a b before prior last m e g h = absurd a
 same_from pool number (line ∷ lines) (x ∷ es) [] a b before prior last m e g h = absurd b
-same_from pool number (Call session call ∷ lines) (x ∷ es) (y ∷ fs) a b before prior last m e g h =
-    let n : x.number ≡ y.number = a.1 ∙ sym b.1 in
-    let c : x.call ≡ y.call = a.2 ∙ sym b.2 in
-    same_ended x y es fs (a.0 ∙ sym b.0) n c
-    (same_first pool x y es fs before prior last m x.end y.end (same_from pool (number + 1) lines es fs a.3 b.3) c n e
+same_from pool number (line ∷ lines) (x ∷ es) (y ∷ fs) a b before prior last m e g h =
+    let same : IsSameCall x y = same_asked (asked_in line) number x y a.0 b.0 in
+    let n : x.number ≡ y.number = same.number in
+    let c : x.call ≡ y.call = same.call in
+    same_ended x y es fs same.session n c
+    (same_first pool x y es fs before prior last m x.end y.end (same_from pool (number + 1) lines es fs a.1 b.1) c n e
     (All-head HasItsReceipt x es g.own) (All-head HasItsReceipt y fs h.own) (All-tail HasItsReceipt x es g.own) (All-tail HasItsReceipt y fs h.own)
     g.ends.0 h.ends.0 g.ends.1 h.ends.1 g.stand h.stand g.legal h.legal)
 

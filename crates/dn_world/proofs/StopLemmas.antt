@@ -1,4 +1,4 @@
-use Rattle.std.proofs.Common.{◌≡◌, ◌<◌, ◌+◌, ◌^◌, ◌⊎◌, inl, inr, ℕ, zero, suc, false, List, [], ◌∷◌, ◌++◌, All, length, take, get_or, Some, None, refl, ap, sym, ◌∙◌, subst, arith}
+use Rattle.std.proofs.Common.{◌≡◌, ◌<◌, ◌+◌, ◌^◌, ◌⊎◌, inl, inr, ℕ, zero, suc, false, List, [], ◌∷◌, ◌++◌, All, length, take, get_or, Option, Some, None, refl, ap, sym, ◌∙◌, subst, arith}
 use Rattle.std.proofs.lemmas.List.{take_more, length-take-le}
 use Rattle.std.proofs.lemmas.List.Elements.{All-push, Contains-get_or}
 use Rattle.std.proofs.lemmas.List.Sorted.{IsPermutation-refl}
@@ -15,9 +15,8 @@ use Rattle.dn_hist.specs.declared.calls.Call.TheVariants.{Get, Put, Delete}
 use Rattle.dn_hist.specs.declared.receipts.Receipt.{Receipt}
 use Rattle.dn_model.specs.PoolMap.{HoldsMap}
 use Rattle.dn_model.specs.Regions.{gate}
-use Rattle.dn_script.specs.Fit.{IsLine}
+use Rattle.dn_script.specs.Played.{Asked, asked_in, IsPlayed, IsPlayedIn}
 use Rattle.dn_script.specs.declared.scripts.Line.{Line}
-use Rattle.dn_script.specs.declared.scripts.Line.TheVariants.{Call}
 use Rattle.dn_lane.specs.Begun.{begun}
 use Rattle.dn_lane.specs.State.{LaneState}
 use Rattle.dn_lane.specs.declared.answers.Answer.{Answer}
@@ -33,9 +32,9 @@ use Rattle.dn_core.proofs.History.{sound_legal, sound_map}
 use Rattle.dn_world.specs.Course.{AreEnded, IsNext, ArePlaced, first_of, last_position}
 use Rattle.dn_world.specs.Ended.{Ended, receipts_of, HasItsReceipt}
 use Rattle.dn_world.specs.Playing.{IsPlaying}
-use Rattle.dn_world.specs.Run.{AreCalled}
+use Rattle.dn_world.specs.Run.{EndsAsked, AreCalled}
 use Rattle.dn_world.specs.State.{WorldState, with_call}
-use Rattle.dn_world.specs.Stopped.{IsLeft, IsLeftWith, Stops, StopsLine, IsStopped}
+use Rattle.dn_world.specs.Stopped.{IsLeft, IsLeftWith, Stops, StopsAsked, StopsLine, IsStopped}
 use Rattle.dn_world.specs.World.{IsWorld, counts_of}
 use Rattle.dn_world.specs.declared.counts.Counts.{Counts}
 use Rattle.dn_world.proofs.CallLemmas.{first_work, view_of, stamp_is, call_begun, made_call, made_ends, made_stands}
@@ -208,25 +207,29 @@ stopped_still lines i pool words now w out of p same = record {
 }
 
 -- within a call
-stopped_by : (lines : List Line) (i session : ℕ) (call : CallOf) (pool : ℕ) (words now : List ℕ) (w : WorldState) (out : List ℕ) (p : IsPlaying lines i words w out) → i < length lines
-    → Call session call ≡ get_or lines i (Call session call) → session ≡ 1 → w.lane.log.pool ≡ pool → IsLeft w.lane.log.pool now p.ended ⊎ IsLeftWith w.lane.log.pool now p.ended call
+stopped_by : (lines : List Line) (i : ℕ) (line : Line) (asked : Asked) (pool : ℕ) (words now : List ℕ) (w : WorldState) (out : List ℕ) (p : IsPlaying lines i words w out) → asked_in line ≡ Some asked
+    → i < length lines → line ≡ get_or lines i line → asked.session ≡ 1 → w.lane.log.pool ≡ pool → IsLeft w.lane.log.pool now p.ended ⊎ IsLeftWith w.lane.log.pool now p.ended asked.call
     → IsStopped pool lines now
-stopped_by lines i session call pool words now w out p lt at one of (inl left) =
+stopped_by lines i line asked pool words now w out p is lt at one of (inl left) =
     record { done = i; ended = p.ended; called = p.called; left = subst (λ n. IsLeft n now p.ended) of left }
-stopped_by lines i session call pool words now w out p lt at one of (inr c) = record {
-  done = i + 1;
-  ended = p.ended ++ c.how ∷ [];
-  called = subst (λ ls. AreCalled 1 ls (p.ended ++ c.how ∷ [])) (ap (λ x. take i lines ++ x ∷ []) at ∙ sym (take_more lines i (Call session call) lt))
-      (called_push 1 (take i lines) p.ended session call c.how p.called (c.session ∙ sym one) (omega (arith, c.number)) c.of);
-  left = subst (λ n. IsLeft n now (p.ended ++ c.how ∷ [])) of c.left;
-}
+stopped_by lines i line asked pool words now w out p is lt at one of (inr c) =
+    let ends : EndsAsked (asked_in line) c.how.number c.how = subst (λ o. EndsAsked o c.how.number c.how) (sym is) (c.session ∙ sym one, refl, c.of) in
+    record {
+      done = i + 1;
+      ended = p.ended ++ c.how ∷ [];
+      called = subst (λ ls. AreCalled 1 ls (p.ended ++ c.how ∷ [])) (ap (λ x. take i lines ++ x ∷ []) at ∙ sym (take_more lines i line lt))
+          (called_push 1 c.how.number (take i lines) p.ended line c.how p.called (omega (arith, c.number)) ends);
+      left = subst (λ n. IsLeft n now (p.ended ++ c.how ∷ [])) of c.left;
+    }
 
-stopped_line : (lines : List Line) (i : ℕ) (line : Line) (pool : ℕ) (words now : List ℕ) (w : WorldState) (out : List ℕ) → i < length lines → line ≡ get_or lines i line → IsLine line
-    → length lines < 2 ^ 31 → w.lane.log.pool ≡ pool → IsPlaying lines i words w out → StopsLine words w line now → IsStopped pool lines now
-stopped_line lines i (Call session call) pool words now w out lt at fits few of p stops =
+stopped_asked : (lines : List Line) (i : ℕ) (line : Line) (asked : Option Asked) (pool : ℕ) (words now : List ℕ) (w : WorldState) (out : List ℕ) → asked_in line ≡ asked → i < length lines
+    → line ≡ get_or lines i line → IsPlayedIn asked → length lines < 2 ^ 31 → w.lane.log.pool ≡ pool → IsPlaying lines i words w out → StopsAsked words w asked now → IsStopped pool lines now
+stopped_asked lines i line None pool words now w out is lt at fits few of p stops = absurd fits
+stopped_asked lines i line (Some asked) pool words now w out is lt at fits few of p stops =
     let so_far : length p.ended ≡ i = called_length 1 (take i lines) p.ended p.called ∙ length-take-le i lines (omega arith) in
-    stopped_by lines i session call pool words now w out p lt at fits.0 of (stops p.ended p.world (is_call call fits.1) fits.0 (omega (arith, so_far)))
+    stopped_by lines i line asked pool words now w out p is lt at fits.first of (stops p.ended p.world (is_call asked.call fits.askable) fits.first (omega (arith, so_far)))
 
 pub stopped_within : (lines : List Line) (i : ℕ) (line : Line) (pool : ℕ) (words now : List ℕ) (w : WorldState) (out : List ℕ) → i < length lines → line ≡ get_or lines i line
-    → All IsLine lines → length lines < 2 ^ 31 → w.lane.log.pool ≡ pool → IsPlaying lines i words w out → StopsLine words w line now → IsStopped pool lines now
-stopped_within lines i line pool words now w out lt at all few of p stops = stopped_line lines i line pool words now w out lt at (line_fits lines i line lt at all) few of p stops
+    → All IsPlayed lines → length lines < 2 ^ 31 → w.lane.log.pool ≡ pool → IsPlaying lines i words w out → StopsLine words w line now → IsStopped pool lines now
+stopped_within lines i line pool words now w out lt at all few of p stops =
+    stopped_asked lines i line (asked_in line) pool words now w out refl lt at (line_fits lines i line lt at all) few of p stops

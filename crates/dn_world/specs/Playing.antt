@@ -1,6 +1,6 @@
-use Rattle.std.specs.Prelude.{◌≡◌, ℕ, List, take}
+use Rattle.std.specs.Prelude.{◌≡◌, ℕ, List, Option, Some, None, take}
 use Rattle.dn_script.specs.declared.scripts.Line.{Line}
-use Rattle.dn_script.specs.declared.scripts.Line.TheVariants.{Call}
+use Rattle.dn_script.specs.Played.{Asked, asked_in}
 use Rattle.dn_world.specs.Ended.{Ended}
 use Rattle.dn_world.specs.Output.{events_text}
 use Rattle.dn_world.specs.Run.{AreCalled}
@@ -14,6 +14,11 @@ pub record IsPlaying (lines : List Line) (done : ℕ) (words : List ℕ) (w : Wo
   pub world : IsWorld words w ended
   pub printed : out ≡ events_text ended
 
+-- what a world does at the call that a line asks for
+abbrev pub CallsAsked : List ℕ → WorldState → Option Asked → List ℕ → List ℕ → WorldState → List ℕ → Type 0
+CallsAsked words w None old now v new = ⊥
+CallsAsked words w (Some asked) old now v new = Calls words w asked.session asked.call old now v new
+
 -- what a world does at a line
 abbrev pub CallsLine : List ℕ → WorldState → Line → List ℕ → List ℕ → WorldState → List ℕ → Type 0
-CallsLine words w (Call session call) old now v new = Calls words w session call old now v new
+CallsLine words w line old now v new = CallsAsked words w (asked_in line) old now v new

@@ -1,4 +1,4 @@
-use Rattle.std.specs.Prelude.{◌≡◌, ℕ, ◌+◌, List, [], ◌∷◌, All}
+use Rattle.std.specs.Prelude.{◌≡◌, ℕ, ◌+◌, List, [], ◌∷◌, Option, Some, None, All}
 use Rattle.std.specs.List.Sorted.{IsPermutation}
 use Rattle.dn_hist.specs.CallersOrder.{IsInCallersOrder}
 use Rattle.dn_hist.specs.Receipt.{IsInOrder}
@@ -6,18 +6,23 @@ use Rattle.dn_hist.specs.Replay.{IsLegal, map_left}
 use Rattle.dn_hist.specs.declared.receipts.Receipt.{Receipt}
 use Rattle.dn_model.specs.PoolMap.{HoldsMap}
 use Rattle.dn_script.specs.declared.scripts.Line.{Line}
-use Rattle.dn_script.specs.declared.scripts.Line.TheVariants.{Call}
+use Rattle.dn_script.specs.Played.{Asked, asked_in}
 use Rattle.dn_core.specs.Image.{log_words, IsImage}
 use Rattle.dn_world.specs.Course.{AreEnded, ArePlaced, first_of, last_position}
 use Rattle.dn_world.specs.Ended.{Ended, receipts_of, HasItsReceipt}
 use Rattle.dn_world.specs.Output.{output_of}
+
+-- so ended the call of this number that a line asks for
+abbrev pub EndsAsked : Option Asked → ℕ → Ended → Type 0
+EndsAsked None number e = ⊥
+EndsAsked (Some asked) number e = (e.session ≡ asked.session) × (e.number ≡ number) × (e.call ≡ asked.call)
 
 -- These are the calls of the lines, in their order, and numbered from this number on.
 abbrev pub AreCalled : ℕ → List Line → List Ended → Type 0
 AreCalled number [] [] = Unit {0}
 AreCalled number [] (e ∷ es) = ⊥
 AreCalled number (line ∷ lines) [] = ⊥
-AreCalled number (Call session call ∷ lines) (e ∷ es) = (e.session ≡ session) × (e.number ≡ number) × (e.call ≡ call) × AreCalled (number + 1) lines es
+AreCalled number (line ∷ lines) (e ∷ es) = EndsAsked (asked_in line) number e × AreCalled (number + 1) lines es
 
 -- A run of a script's lines in a pool of so many segments, that left these words and printed this output. Each call was made, or
 -- given up where there was no room for its record, and stands where the rule of positions places it. The printed history has

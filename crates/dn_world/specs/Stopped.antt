@@ -1,11 +1,11 @@
-use Rattle.std.specs.Prelude.{◌≡◌, ◌⊎◌, ℕ, ◌+◌, ◌-◌, ◌^◌, ◌<◌, ◌++◌, List, [], ◌∷◌, Result, OnOk, IsErrOf, All, length, take}
+use Rattle.std.specs.Prelude.{◌≡◌, ◌⊎◌, ℕ, ◌+◌, ◌-◌, ◌^◌, ◌<◌, ◌++◌, List, [], ◌∷◌, Option, Some, None, Result, OnOk, IsErrOf, All, length, take}
 use Rattle.dn_hist.specs.Calls.{IsWrite}
 use Rattle.dn_hist.specs.CallersOrder.{IsInCallersOrder}
 use Rattle.dn_hist.specs.Replay.{IsLegal, map_left}
 use Rattle.dn_hist.specs.declared.calls.Call.{Call as CallOf}
 use Rattle.dn_model.specs.PoolMap.{HoldsMap}
 use Rattle.dn_script.specs.declared.scripts.Line.{Line}
-use Rattle.dn_script.specs.declared.scripts.Line.TheVariants.{Call}
+use Rattle.dn_script.specs.Played.{Asked, asked_in}
 use Rattle.dn_core.specs.Calling.{IsCall}
 use Rattle.dn_world.specs.Course.{AreEnded, ArePlaced, first_of}
 use Rattle.dn_world.specs.Ended.{Ended, receipts_of, HasItsReceipt}
@@ -49,9 +49,14 @@ Stops words w session call now =
     (ended : List Ended) → IsWorld words w ended → IsCall call → session ≡ 1 → length ended < 2 ^ 31 - 1
     → IsLeft w.lane.log.pool now ended ⊎ IsLeftWith w.lane.log.pool now ended call
 
+-- what a stop leaves at the call that a line asks for
+abbrev pub StopsAsked : List ℕ → WorldState → Option Asked → List ℕ → Type 0
+StopsAsked words w None now = ⊥
+StopsAsked words w (Some asked) now = Stops words w asked.session asked.call now
+
 -- what a stop leaves at a line
 abbrev pub StopsLine : List ℕ → WorldState → Line → List ℕ → Type 0
-StopsLine words w (Call session call) now = Stops words w session call now
+StopsLine words w line now = StopsAsked words w (asked_in line) now
 
 -- The play of a script's lines was stopped, in a pool of so many segments: the words hold what the calls of its first lines leave,
 -- each of them once.

@@ -5,8 +5,8 @@ use Rattle.dinomo.proofs.playing.play_source.Goals as goal
 
 -- a pool in which nothing was written
 pub returns-in-Err-OutOfMemory-clause-stopped : goal.returns-in-Err-OutOfMemory-clause-stopped
-returns-in-Err-OutOfMemory-clause-stopped g c = λ stop left lines told is.
-    zeros_stopped (segments_of (length (g.M.Memory.words c.args.pool.now))) lines (g.M.Memory.words c.args.pool.now) c.requires.zeros
+returns-in-Err-OutOfMemory-clause-stopped g c = λ stop left script told is.
+    zeros_stopped script.segments script.lines (g.M.Memory.words c.args.pool.now) c.requires.zeros
 
 pub returns-in-Err-OutOfMemory-clause-leaves_stopped : goal.returns-in-Err-OutOfMemory-clause-leaves_stopped
 returns-in-Err-OutOfMemory-clause-leaves_stopped g c = λ stop. record {

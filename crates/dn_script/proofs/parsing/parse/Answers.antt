@@ -1,15 +1,13 @@
-use Rattle.std.proofs.Common.{◌≤◌, sym, subst, List, All, length}
-use Rattle.dn_script.specs.Fit.{IsLine}
-use Rattle.dn_script.specs.declared.scripts.Line.{Line}
-use Rattle.dn_script.proofs.FitLemmas.{script_fits, script_few}
+use Rattle.dn_script.specs.declared.scripts.Script.{Script}
+use Rattle.dn_script.proofs.Walks.{if_ok}
+use Rattle.dn_script.proofs.PlayedLemmas.{script_plays}
 use Rattle.dn_script.proofs.parsing.parse.Goals as goal
 
-pub returns-clause-fit : goal.returns-clause-fit
-returns-clause-fit c =
-    let P : List Line → Type 0 = λ xs. All IsLine xs in
-    subst P (sym c.of.ensures) (script_fits c.args.bytes.now c.in_ok-lines.lines.items c.in_ok-lines.ensures.lines)
+pub returns-clause-calls : goal.returns-clause-calls
+returns-clause-calls c = if_ok c.parse_with.result (λ (s : Script) h. (script_plays c.args.mode c.args.segments c.args.bytes.now s h).lines_are) c.parse_with.ensures.script
 
-pub returns-clause-few : goal.returns-clause-few
-returns-clause-few c =
-    let P : List Line → Type 0 = λ xs. length xs ≤ length c.args.bytes.now in
-    subst P (sym c.of.ensures) (script_few c.args.bytes.now c.in_ok-lines.lines.items c.in_ok-lines.ensures.lines)
+pub returns-clause-segments : goal.returns-clause-segments
+returns-clause-segments c = if_ok c.parse_with.result (λ (s : Script) h. (script_plays c.args.mode c.args.segments c.args.bytes.now s h).segments_are) c.parse_with.ensures.script
+
+pub returns-clause-header : goal.returns-clause-header
+returns-clause-header c = if_ok c.parse_with.result (λ (s : Script) h. ((script_plays c.args.mode c.args.segments c.args.bytes.now s h).nodes_are, (script_plays c.args.mode c.args.segments c.args.bytes.now s h).units_are)) c.parse_with.ensures.script
