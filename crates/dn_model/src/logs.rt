@@ -63,8 +63,7 @@ fn piece(
 {
     let mut piece = Vec::new(alloc);
     for i in 0..count {
-        piece
-            .push(word_of(words, lane, offset + i))?;
+        piece.push(word_of(words, lane, offset + i))?;
     }
     Ok(piece)
 }

@@ -4,7 +4,7 @@ ghost use Rattle.std.specs.Prelude.{◌≡◌, ◌≤◌, ◌++◌, length, OnOk
 ghost use Rattle.dn_print.specs.Front.{KeepsFront};
 ghost use Rattle.dn_print.specs.CallLine.{head_text, end_text, cell_text, not_owner_text, fenced_text, again_text, full_text, worn_text, made_text, event_text};
 
-use crate::pieces::{bytes, number as digits, position as place, reply, whole, word};
+use crate::pieces::{byte, bytes, number as digits, position as place, reply, whole, word};
 use dn_hist::Reply;
 use dn_word::{OutOfMemory, Position};
 
@@ -64,11 +64,11 @@ fn head(out: &mut Vec<u8>, start: usize, session: u32, number: u32) -> Result<()
     ensures ok { OnOk result (out.new.items ≡ out.old.items ++ head_text session number) }
     ensures front { KeepsFront start out.old.items out.new.items }
 {
-    bytes(out, start, b"c")?;
+    byte(out, start, b'c')?;
     digits(out, start, session as u64)?;
-    bytes(out, start, b" ")?;
+    byte(out, start, b' ')?;
     digits(out, start, number as u64)?;
-    bytes(out, start, b" ")
+    byte(out, start, b' ')
 }
 
 /// Appends a position and the line's end.
@@ -78,9 +78,9 @@ fn end(out: &mut Vec<u8>, start: usize, position: Position) -> Result<(), OutOfM
     ensures ok { OnOk result (out.new.items ≡ out.old.items ++ end_text position) }
     ensures front { KeepsFront start out.old.items out.new.items }
 {
-    bytes(out, start, b" ")?;
+    byte(out, start, b' ')?;
     place(out, start, position)?;
-    bytes(out, start, b"\n")
+    byte(out, start, b'\n')
 }
 
 /// Appends the line of a call that was made.
@@ -130,9 +130,9 @@ fn cell_end(out: &mut Vec<u8>, start: usize, cell: Option<u64>) -> Result<(), Ou
 {
     match cell {
         Some(seen) => {
-            bytes(out, start, b" ")?;
+            byte(out, start, b' ')?;
             word(out, start, seen)?;
-            bytes(out, start, b"\n")
+            byte(out, start, b'\n')
         }
         None => bytes(out, start, b" -\n"),
     }
@@ -164,7 +164,7 @@ fn fenced(out: &mut Vec<u8>, start: usize, gate: u64) -> Result<(), OutOfMemory>
 {
     bytes(out, start, b"fenced ")?;
     word(out, start, gate)?;
-    bytes(out, start, b"\n")
+    byte(out, start, b'\n')
 }
 
 /// Appends that another word was seen.
@@ -176,9 +176,9 @@ fn again(out: &mut Vec<u8>, start: usize, old: u64, seen: u64) -> Result<(), Out
 {
     bytes(out, start, b"again ")?;
     word(out, start, old)?;
-    bytes(out, start, b" ")?;
+    byte(out, start, b' ')?;
     word(out, start, seen)?;
-    bytes(out, start, b"\n")
+    byte(out, start, b'\n')
 }
 
 /// Appends that no segment is left.
@@ -190,9 +190,9 @@ fn full(out: &mut Vec<u8>, start: usize, counter: u64, segments: u32) -> Result<
 {
     bytes(out, start, b"full ")?;
     digits(out, start, counter)?;
-    bytes(out, start, b" ")?;
+    byte(out, start, b' ')?;
     digits(out, start, segments as u64)?;
-    bytes(out, start, b"\n")
+    byte(out, start, b'\n')
 }
 
 /// Appends that the stamps are used up.
@@ -204,7 +204,7 @@ fn worn(out: &mut Vec<u8>, start: usize, stamp: u32) -> Result<(), OutOfMemory>
 {
     bytes(out, start, b"worn ")?;
     digits(out, start, stamp as u64)?;
-    bytes(out, start, b"\n")
+    byte(out, start, b'\n')
 }
 
 /// Appends the line of an attempt.

@@ -4,7 +4,7 @@ ghost use Rattle.std.specs.Prelude.{◌≡◌, ◌≤◌, ◌++◌, length, OnOk
 ghost use Rattle.dn_print.specs.Front.{KeepsFront};
 ghost use Rattle.dn_print.specs.HistoryLine.{place_text, verb_text, call_text, tail_text, history_head_text, history_line_text};
 
-use crate::pieces::{bytes, number as digits, position as points, reply, value, whole};
+use crate::pieces::{byte, bytes, number as digits, position as points, reply, value, whole};
 use dn_hist::{Call, Receipt};
 use dn_word::{OutOfMemory, Position};
 
@@ -17,7 +17,7 @@ fn head_line(out: &mut Vec<u8>, start: usize, receipts: u64) -> Result<(), OutOf
 {
     bytes(out, start, b"history ")?;
     digits(out, start, receipts)?;
-    bytes(out, start, b"\n")
+    byte(out, start, b'\n')
 }
 
 /// Appends the line that heads a history of so many receipts. Where memory is wanting, `out` stays.
@@ -44,9 +44,9 @@ fn place(
     ensures front { KeepsFront start out.old.items out.new.items }
 {
     points(out, start, position)?;
-    bytes(out, start, b" ")?;
+    byte(out, start, b' ')?;
     digits(out, start, number as u64)?;
-    bytes(out, start, b" ")
+    byte(out, start, b' ')
 }
 
 /// Appends a verb and a key.
@@ -57,9 +57,9 @@ fn verb(out: &mut Vec<u8>, start: usize, verb: &[u8], key: u64) -> Result<(), Ou
     ensures front { KeepsFront start out.old.items out.new.items }
 {
     bytes(out, start, verb)?;
-    bytes(out, start, b" ")?;
+    byte(out, start, b' ')?;
     digits(out, start, key)?;
-    bytes(out, start, b" ")
+    byte(out, start, b' ')
 }
 
 /// Appends a call.
@@ -74,7 +74,7 @@ fn call(out: &mut Vec<u8>, start: usize, call: &Call) -> Result<(), OutOfMemory>
         Call::Put { key, value: given } => {
             verb(out, start, b"put", *key)?;
             value(out, start, given.as_bytes())?;
-            bytes(out, start, b" ")
+            byte(out, start, b' ')
         }
         Call::Delete { key } => verb(out, start, b"del", *key),
     }
@@ -88,7 +88,7 @@ fn tail(out: &mut Vec<u8>, start: usize, answered: bool) -> Result<(), OutOfMemo
     ensures front { KeepsFront start out.old.items out.new.items }
 {
     if answered {
-        bytes(out, start, b"\n")
+        byte(out, start, b'\n')
     } else {
         bytes(out, start, b" unanswered\n")
     }

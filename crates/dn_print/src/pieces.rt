@@ -24,6 +24,19 @@ pub(crate) fn bytes(out: &mut Vec<u8>, start: usize, bytes: &[u8]) -> Result<(),
     }
 }
 
+/// Appends one byte.
+#[tactic(auto, using(crate::proofs::FrontLemmas::keeps_same, crate::proofs::FrontLemmas::keeps_more))]
+pub(crate) fn byte(out: &mut Vec<u8>, start: usize, byte: u8) -> Result<(), OutOfMemory>
+    requires { start ≤ length out.old.items }
+    ensures ok { OnOk result (out.new.items ≡ out.old.items ++ byte ∷ []) }
+    ensures front { KeepsFront start out.old.items out.new.items }
+{
+    match out.push(byte) {
+        Ok(()) => Ok(()),
+        Err(_) => Err(OutOfMemory),
+    }
+}
+
 /// Appends a number in decimal digits.
 pub(crate) fn number(out: &mut Vec<u8>, start: usize, number: u64) -> Result<(), OutOfMemory>
     requires { start ≤ length out.old.items }
@@ -64,9 +77,9 @@ pub(crate) fn position(
     ensures front { KeepsFront start out.old.items out.new.items }
 {
     number(out, start, position.stamp as u64)?;
-    bytes(out, start, b".")?;
+    byte(out, start, b'.')?;
     number(out, start, position.rank as u64)?;
-    bytes(out, start, b".")?;
+    byte(out, start, b'.')?;
     number(out, start, position.session as u64)
 }
 
@@ -119,10 +132,10 @@ pub(crate) fn value(out: &mut Vec<u8>, start: usize, value: &[u8]) -> Result<(),
     ensures front { KeepsFront start out.old.items out.new.items }
 {
     if are_graphic(value) {
-        bytes(out, start, b"=")?;
+        byte(out, start, b'=')?;
         bytes(out, start, value)
     } else {
-        bytes(out, start, b"%")?;
+        byte(out, start, b'%')?;
         hex(out, start, value)
     }
 }

@@ -4,7 +4,7 @@ ghost use Rattle.std.specs.Prelude.{◌≡◌, ◌≤◌, ◌++◌, length, OnOk
 ghost use Rattle.dn_print.specs.Front.{KeepsFront};
 ghost use Rattle.dn_print.specs.RefusalLine.{bad_line_text, bad_words_text};
 
-use crate::pieces::{bytes, number, whole};
+use crate::pieces::{byte, bytes, number, whole};
 use dn_word::OutOfMemory;
 
 /// Appends the number of a script's bad line and why it is bad.
@@ -18,7 +18,7 @@ fn cause_line(out: &mut Vec<u8>, start: usize, line: u64, cause: &str) -> Result
     number(out, start, line)?;
     bytes(out, start, b": ")?;
     bytes(out, start, cause.as_bytes())?;
-    bytes(out, start, b"\n")
+    byte(out, start, b'\n')
 }
 
 /// Appends the number of a script's bad line and why it is bad. Where memory is wanting, `out` stays.

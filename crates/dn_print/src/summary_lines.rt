@@ -4,7 +4,7 @@ ghost use Rattle.std.specs.Prelude.{◌≡◌, ◌≤◌, ◌++◌, length, OnOk
 ghost use Rattle.dn_print.specs.Front.{KeepsFront};
 ghost use Rattle.dn_print.specs.SummaryLine.{state_text, labelled_text, lane_head_text, lane_text, calls_text, cached_text, located_text, ways_text, map_text};
 
-use crate::pieces::{bytes, number as digits, whole};
+use crate::pieces::{byte, bytes, number as digits, whole};
 use dn_word::OutOfMemory;
 
 /// Whether a lane takes calls.
@@ -81,7 +81,7 @@ fn lane_head(out: &mut Vec<u8>, start: usize, lane: u8, state: LaneState) -> Res
 {
     bytes(out, start, b"lane ")?;
     digits(out, start, lane as u64)?;
-    bytes(out, start, b" ")?;
+    byte(out, start, b' ')?;
     bytes(out, start, state.name().as_bytes())
 }
 
@@ -96,7 +96,7 @@ fn lane_words(out: &mut Vec<u8>, start: usize, of: &LaneSummary) -> Result<(), O
     labelled(out, start, b" stamp ", of.stamp as u64)?;
     labelled(out, start, b" len ", of.len as u64)?;
     labelled(out, start, b" mark ", of.mark)?;
-    bytes(out, start, b"\n")
+    byte(out, start, b'\n')
 }
 
 /// Appends the line of a lane: its number, its state, its last stamp, and its log's sealed length and merged mark in words.
@@ -138,7 +138,7 @@ fn calls_words(out: &mut Vec<u8>, start: usize, of: &CallCounts) -> Result<(), O
     labelled(out, start, b" refused ", of.refused)?;
     labelled(out, start, b" unanswered ", of.unanswered)?;
     labelled(out, start, b" given ", of.given)?;
-    bytes(out, start, b"\n")
+    byte(out, start, b'\n')
 }
 
 /// Appends how many calls there were, and of these were made, had no answer and were given up, and how many attempts were
@@ -195,7 +195,7 @@ fn located(out: &mut Vec<u8>, start: usize, of: &WayCounts) -> Result<(), OutOfM
     labelled(out, start, b" pending ", of.pending)?;
     labelled(out, start, b" index ", of.index)?;
     labelled(out, start, b" cell ", of.cell)?;
-    bytes(out, start, b"\n")
+    byte(out, start, b'\n')
 }
 
 /// Appends the line of the ways.
@@ -250,7 +250,7 @@ fn keys_line(out: &mut Vec<u8>, start: usize, keys: u64) -> Result<(), OutOfMemo
     ensures front { KeepsFront start out.old.items out.new.items }
 {
     labelled(out, start, b"map ", keys)?;
-    bytes(out, start, b"\n")
+    byte(out, start, b'\n')
 }
 
 /// Appends how many keys the history leaves. Where memory is wanting, `out` stays.

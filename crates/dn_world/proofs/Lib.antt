@@ -2,6 +2,7 @@ mod CallLemmas
 mod CountLemmas
 mod CourseLemmas
 mod FinishLemmas
+mod KeyLemmas
 mod OneOrder
 mod OpenLemmas
 mod OutputLaw

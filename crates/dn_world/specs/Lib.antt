@@ -1,6 +1,7 @@
 pub mod Course
 pub mod Ended
 pub mod Inside
+pub mod Keys
 pub mod Output
 pub mod Playing
 pub mod Rest

@@ -1,0 +1,4 @@
+pub mod CoverLemmas
+pub mod EntryLaws
+pub mod FilterLemmas
+pub mod ListLemmas

@@ -1,0 +1,5 @@
+pub mod Entries
+pub mod Filter
+pub mod Queue
+pub mod Segments
+pub mod Table
