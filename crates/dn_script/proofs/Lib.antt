@@ -2,6 +2,7 @@ mod DecimalLemmas
 mod DraftLemmas
 mod FieldLemmas
 pub mod LineFits
+mod LeftLemmas
 mod PartLemmas
 pub mod PlayedLemmas
 mod SaidFits

@@ -98,14 +98,18 @@ fn looks_like(part: Part, field: &[u8]) -> bool
 fn begins_on(parts: &[Part], rest: Option<&[u8]>) -> bool
     ensures { result ≡ begins parts.now (left_of rest.entry) }
 {
-    let [part, parts @ ..] = parts else {
-        return true;
-    };
-    let Some(text) = rest else {
-        return true;
-    };
-    let (field, more) = first_of(text);
-    looks_like(*part, field) && begins_on(parts, more)
+    let mut rest = rest;
+    for part in parts {
+        let Some(text) = rest else {
+            return true;
+        };
+        let (field, more) = first_of(text);
+        if !looks_like(*part, field) {
+            return false;
+        }
+        rest = more;
+    }
+    true
 }
 
 /// Whether the line begins as the parts do.
@@ -219,17 +223,20 @@ fn read_on<'a>(
 ) -> Result<Found<'a>, Cause>
     ensures { said_in result ≡ reading rules parts.now (left_of rest.entry) (said_by found.entry) }
 {
-    let [part, parts @ ..] = parts else {
-        return Ok(found);
-    };
-    let Some(text) = rest else {
-        return Ok(found);
-    };
-    let (field, more) = first_of(text);
-    match with_field(rules, *part, field, found) {
-        Ok(found) => read_on(rules, parts, more, found),
-        Err(cause) => Err(cause),
+    let mut rest = rest;
+    let mut found = found;
+    for part in parts {
+        let Some(text) = rest else {
+            return Ok(found);
+        };
+        let (field, more) = first_of(text);
+        found = match with_field(rules, *part, field, found) {
+            Ok(more) => more,
+            Err(cause) => return Err(cause),
+        };
+        rest = more;
     }
+    Ok(found)
 }
 
 /// What the fields of a line say, whose parts are these, or the cause of the first bad one.

@@ -44,11 +44,12 @@ fn are_known(verbs: &[Verb], parts: &[Part]) -> bool
     parts.iter().all(|part| is_known(verbs, *part))
 }
 
-/// Whether the line begins the row, and all of it is played.
+/// Whether the line begins the row, and all of it is played. A row that isn't played costs no look at the line.
+#[tactic(auto, using(crate::proofs::LeftLemmas::begun_if_known))]
 fn is_begun(verbs: &[Verb], line: &[u8], row: Row) -> bool
     ensures { result ≡ is_begun verbs.now (fields_of line.now) row }
 {
-    begins(row.parts(), line) && are_known(verbs, row.parts())
+    are_known(verbs, row.parts()) && begins(row.parts(), line)
 }
 
 /// The first of the rows that the line begins.
