@@ -6,3 +6,5 @@ pub mod Standings
 pub mod Tables
 pub mod Lanes
 pub mod Claims
+pub mod Flows
+pub mod Buckets

@@ -95,3 +95,16 @@ stored_shape words now chains index at new x s fits = record {
         ap home_of is ∙ x.homed h c j hl m jl (omega (arith, is, pos)))
   ];
 }
+
+-- ---- a place with a key is the one at which the key stands; a key for which the index gives nothing stands nowhere
+only_by : (words : List ℕ) (chains : ℕ → List ℕ) (k b i c j : ℕ) (place : Option ℕ) → Stands words chains k place → IsPlaceOf chains k b i → bucket words b (i + 1) ≡ k → IsPlaceOf chains k c j → bucket words c (j + 1) ≡ k
+    → (c ≡ b) × (j ≡ i)
+only_by words chains k b i c j None h at is p e = absurd (h b i at is)
+only_by words chains k b i c j (Some place) h at is p e = let one = h.only b i at is in let two = h.only c j p e in (two.0 ∙ sym one.0, two.1 ∙ sym one.1)
+
+pub only_place : (words : List ℕ) (chains : ℕ → List ℕ) (index : ℕ → Option ℕ) (k b i c j : ℕ) → IsIndexed words chains index → 0 < k → IsPlaceOf chains k b i → bucket words b (i + 1) ≡ k → IsPlaceOf chains k c j
+    → bucket words c (j + 1) ≡ k → (c ≡ b) × (j ≡ i)
+only_place words chains index k b i c j x pos = only_by words chains k b i c j (index k) (x.stands k pos)
+
+pub stands_none : (words : List ℕ) (chains : ℕ → List ℕ) (index : ℕ → Option ℕ) (k b i : ℕ) → IsIndexed words chains index → 0 < k → index k ≡ None → IsPlaceOf chains k b i → bucket words b (i + 1) ≡ k → ⊥
+stands_none words chains index k b i x pos absent at is = let P : Option ℕ → Type 0 = λ o. Stands words chains k o in subst P absent (x.stands k pos) b i at is

@@ -55,8 +55,9 @@ pub one_inside : (i new a : ℕ) → Turns_one i i new a new
 one_inside i new a = (λ d. absurd (d refl), λ e. refl)
 
 -- behind the table nothing of it is stored
-pub table_beside : (words now : List ℕ) (s : StoreState) (at new : ℕ) → IsStored words now at new → 768 ≤ at → IsTable words s → IsTable now s
-table_beside words now s at new st high h = table_turned words now s s at new st (record {
+pub table_beside : (words now : List ℕ) (s : StoreState) (index : ℕ → Option ℕ) (takers : ℕ → ℕ) (at new : ℕ) → IsStored words now at new → 768 ≤ at → IsTable words s
+    → IsTable now (record s { index = index; takers = takers })
+table_beside words now s index takers at new st high h = table_turned words now s (record s { index = index; takers = takers }) at new st (record {
   pool = refl;
   format = λ e. absurd (omega (arith, e, high));
   segment_count = one_aside 1 at new s.segment_count (λ e. absurd (omega (arith, e, high)));
