@@ -1,7 +1,7 @@
-use Rattle.std.proofs.Common.{ℕ, ◌+◌, ◌<◌, ◌≤◌, ◌≡◌, ◌≢◌, ◌⊎◌, inl, inr, List, ◌∷◌, Contains, length, Option, Some, None, refl, sym, ◌∙◌, ap, subst, arith, slice_set}
+use Rattle.std.proofs.Common.{ℕ, ◌+◌, ◌<◌, ◌≡◌, ◌⊎◌, inl, inr, List, Option, Some, None, refl, sym, ◌∙◌, ap, subst, arith, slice_set}
 use Rattle.std.proofs.lemmas.Bool.{cases_eq}
 use Rattle.dn_act.specs.Words.{word_at}
-use Rattle.dn_model.specs.Regions.{gate_at, directory_at, place, bucket, bucket_at, home_of, IsLane}
+use Rattle.dn_model.specs.Regions.{directory_at, bucket, bucket_at, home_of}
 use Rattle.dn_model.specs.Index.{IsChain}
 use Rattle.dn_model.proofs.HashLaws.{home_below}
 use Rattle.dn_store.specs.State.{StoreState, with_at}
@@ -68,9 +68,9 @@ overflow_stored : (words now : List ℕ) (chains : ℕ → List ℕ) (count : �
 overflow_stored words now chains count takers b w new wl st claimed own = overflow_stays words now chains count takers
     (λ c i le lt il. st.other (bucket_at c i) (λ e. absurd (omega (arith, e, il, wl, le, claimed))))
     (λ c i pos il one four. st.other (bucket_at c i) (λ e.
-      let same : c ≡ b = omega (arith, e, il, wl) in
-      let P : ℕ → Type 0 = λ x. 0 < takers x in
-      elim (own (subst P same pos)) [ inl x ↦ one (omega (arith, e, same, x)) | inr x ↦ four (omega (arith, e, same, x)) ]))
+    let same : c ≡ b = omega (arith, e, il, wl) in
+    let P : ℕ → Type 0 = λ x. 0 < takers x in
+    elim (own (subst P same pos)) [ inl x ↦ one (omega (arith, e, same, x)) | inr x ↦ four (omega (arith, e, same, x)) ]))
 
 place_overflow : (words : List ℕ) (chains : ℕ → List ℕ) (s : StoreState) (k b i w new : ℕ) → Represents words chains s → IsPlaceOf chains k b i → w < 8 → IsOverflow (slice_set words (bucket_at b w) new) chains s.bucket_count s.takers
 place_overflow words chains s k b i w new h at wl =
@@ -131,9 +131,9 @@ key_stored words chains s k b i h kp at free absent =
     slot_word words chains s b (i + 1) k (with_at s.index k (Some (bucket words b (i + 4)))) h bl (omega (arith, il))
     (index_changes words now chains chains s.index k (Some (bucket words b (i + 4))) h.indexed
     (stored_shape words now chains s.index (bucket_at b (i + 1)) k h.indexed st (λ home c j lt m jl e _.
-      let same : c ≡ b = omega (arith, e, il, jl) in
-      let P : ℕ → Type 0 = λ x. InChain chains home x in
-      h.indexed.apart (home_of k) home b hl lt at.has (subst P same m)))
+    let same : c ≡ b = omega (arith, e, il, jl) in
+    let P : ℕ → Type 0 = λ x. InChain chains home x in
+    h.indexed.apart (home_of k) home b hl lt at.has (subst P same m)))
     (λ q pos d. key_stays words now chains b i k q il st (λ e. absurd (omega (arith, e, free, pos))) (λ e. d (sym e)))
     (record {
       b = b;
@@ -176,9 +176,9 @@ own_word words chains s c w new h pos either wl =
     slot_word words chains s c w new s.index h t.2 wl
     (index_stays words now chains chains s.index h.indexed
     (stored_shape words now chains s.index (bucket_at c w) new h.indexed st (λ home d j lt m jl e _.
-      let same : d ≡ c = omega (arith, e, jl, wl) in
-      let P : ℕ → Type 0 = λ x. InChain chains home x in
-      absurd (loose home lt (subst P same m))))
+    let same : d ≡ c = omega (arith, e, jl, wl) in
+    let P : ℕ → Type 0 = λ x. InChain chains home x in
+    absurd (loose home lt (subst P same m))))
     (λ k _. loose_stays words now chains c w new k (omega (arith, wl)) st loose))
     (overflow_stored words now chains s.bucket_count s.takers c w new (omega (arith, wl)) st t.1 (λ _. either) o)
 

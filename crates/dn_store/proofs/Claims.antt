@@ -1,9 +1,8 @@
-use Rattle.std.proofs.Common.{ℕ, ◌+◌, ◌<◌, ◌≤◌, ◌≡◌, ◌≢◌, ◌⊎◌, inl, inr, List, Contains, refl, sym, ◌∙◌, ap, subst, arith, slice_set, length}
+use Rattle.std.proofs.Common.{ℕ, ◌+◌, ◌<◌, ◌≤◌, ◌≡◌, ◌≢◌, inl, inr, List, Contains, refl, ◌∙◌, subst, arith, slice_set, length}
 use Rattle.dn_word.specs.Gate.{gate_of}
 use Rattle.dn_word.specs.Deed.{deed_of}
 use Rattle.dn_word.specs.Regions.{segment_counter_at, cell_counter_at, overflow_counter_at, cell_key_at}
-use Rattle.dn_model.specs.Regions.{cell_at, bucket, IsLane}
-use Rattle.dn_model.specs.Log.{IsLog}
+use Rattle.dn_model.specs.Regions.{cell_at, bucket}
 use Rattle.dn_store.specs.State.{StoreState, with_at}
 use Rattle.dn_store.specs.Changes.{claimed, segment_wanted, celled, cell_keyed, cell_claimed, cell_wanted, bucket_claimed, bucket_wanted}
 use Rattle.dn_store.specs.Space.{IsSpace}
@@ -11,8 +10,8 @@ use Rattle.dn_store.specs.CellSpace.{IsCellSpace}
 use Rattle.dn_store.specs.Overflow.{IsOverflow}
 use Rattle.dn_store.specs.Represents.{IsTable, Represents}
 use Rattle.dn_store.proofs.At.{at_other, at_by}
-use Rattle.dn_store.proofs.Stores.{IsStored, is_stored, aside, inside}
-use Rattle.dn_store.proofs.Tables.{itself, IsTurned, one_aside, one_inside, TableChange, table_changed, table_log}
+use Rattle.dn_store.proofs.Stores.{is_stored, aside, inside}
+use Rattle.dn_store.proofs.Tables.{itself, one_aside, one_inside, table_changed, table_log}
 
 -- The counters of claims, and the words of cells.
 

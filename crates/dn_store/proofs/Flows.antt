@@ -1,9 +1,9 @@
-use Rattle.std.proofs.Common.{ℕ, ◌+◌, ◌*◌, ◌/◌, ◌%◌, ◌<◌, ◌≤◌, ◌≡◌, ◌≢◌, ◌⊎◌, inl, inr, List, length, refl, sym, ◌∙◌, ap, subst, arith, slice_set}
+use Rattle.std.proofs.Common.{ℕ, ◌+◌, ◌*◌, ◌/◌, ◌%◌, ◌<◌, ◌≤◌, ◌≡◌, ◌≢◌, ◌⊎◌, inl, inr, List, sym, ◌∙◌, ap, subst, arith, slice_set}
 use Rattle.std.proofs.lemmas.Nat.{same_from_place, mod_below}
 use Rattle.std.proofs.lemmas.Bool.{cases_eq}
 use Rattle.dn_word.specs.declared.packed.gate.Gate.{Gate}
 use Rattle.dn_act.specs.Words.{word_at}
-use Rattle.dn_model.specs.Regions.{gate, gate_at, directory, directory_at, place, place_in, bucket_at, home_of, IsLane}
+use Rattle.dn_model.specs.Regions.{gate, directory, directory_at, place_in, bucket_at, home_of, IsLane}
 use Rattle.dn_model.specs.Log.{IsLog}
 use Rattle.dn_model.proofs.HashLaws.{home_below}
 use Rattle.dn_store.specs.State.{StoreState}
@@ -45,24 +45,25 @@ flowed words now chains s at new h st high apart logs space =
     }
 
 -- ---- a word of a segment that lane n holds, at no offset that is sealed
-pub segment_flow : (words : List ℕ) (chains : ℕ → List ℕ) (s : StoreState) (n g i word : ℕ) → Represents words chains s → IsLane n → s.holders g ≡ n → i < 1024
-    → ((q : ℕ) → q < 256 → directory words n q ≡ g + 1 → (s.gates n).len ≤ q * 1024 + i) → Represents (slice_set words (98304 + 1024 * g + i) word) chains s
-segment_flow words chains s n g i word h l own il past =
-    let at : ℕ = 98304 + 1024 * g + i in
+pub segment_flow : (words : List ℕ) (chains : ℕ → List ℕ) (s : StoreState) (n g o word : ℕ) → Represents words chains s → IsLane n → s.holders g ≡ n
+    → ((q : ℕ) → q < 256 → directory words n q ≡ g + 1 → (s.gates n).len ≤ q * 1024 + o % 1024) → Represents (slice_set words (place_in (g + 1) o) word) chains s
+segment_flow words chains s n g o word h l own past =
+    let at : ℕ = place_in (g + 1) o in
     let now : List ℕ = slice_set words at word in
     let c = h.space.claimed g (omega (arith, own, l.positive)) in
     let size = h.table.size in
+    let il = mod_below o 1024 (omega arith) in
     let st = is_stored words at word (omega (arith, size, il, c.1)) in
     flowed words now chains s at word h st (omega arith) (λ b j lt jl e. absurd (omega (arith, e, lt, jl)))
     (λ m k. log_stays words now at word m (s.logs m) st (λ e. absurd (omega (arith, e, k.below))) (λ q ql _ e. absurd (omega (arith, e, ql, k.below)))
-    (λ o below pos e.
-      let covered = (h.reads.logs_are m k).covered o below in
-      let same = same_from_place (directory words m (o / 1024)) (o % 1024) (g + 1) i 1024 (mod_below o 1024 (omega arith)) il (omega (arith, e)) in
-      let mine : m ≡ n = sym (h.space.named m (o / 1024) g k covered.0 same.0) ∙ own in
-      let P : ℕ → Type 0 = λ x. directory words x (o / 1024) ≡ g + 1 in
-      let le = past (o / 1024) covered.0 (subst P mine same.0) in
-      let len : (gate words m).len ≡ (s.gates n).len = ap (λ (x : Gate). x.len) (h.table.gates m k.below) ∙ ap (λ x. (s.gates x).len) mine in
-      absurd (omega (arith, le, len, below, same.1)))
+    (λ p below pos e.
+    let covered = (h.reads.logs_are m k).covered p below in
+    let same = same_from_place (directory words m (p / 1024)) (p % 1024) (g + 1) (o % 1024) 1024 (mod_below p 1024 (omega arith)) il (omega (arith, e)) in
+    let mine : m ≡ n = sym (h.space.named m (p / 1024) g k covered.0 same.0) ∙ own in
+    let P : ℕ → Type 0 = λ x. directory words x (p / 1024) ≡ g + 1 in
+    let le = past (p / 1024) covered.0 (subst P mine same.0) in
+    let len : (gate words m).len ≡ (s.gates n).len = ap (λ (x : Gate). x.len) (h.table.gates m k.below) ∙ ap (λ x. (s.gates x).len) mine in
+    absurd (omega (arith, le, len, below, same.1)))
     (h.reads.logs_are m k))
     (space_stays words now s.pool s.segment_count s.holders (λ m q k ql. st.other (directory_at m q) (λ e. absurd (omega (arith, e, ql, k.below)))) h.space)
 

@@ -1,8 +1,8 @@
-use Rattle.std.proofs.Common.{ℕ, zero, suc, ◌+◌, ◌/◌, ◌<◌, ◌≤◌, ◌≡◌, ◌≢◌, ◌⊎◌, inl, inr, List, [], ◌∷◌, ◌++◌, Contains, refl, sym, ◌∙◌, ap, subst, arith, slice_set, append_assoc}
+use Rattle.std.proofs.Common.{ℕ, zero, suc, ◌+◌, ◌/◌, ◌<◌, ◌≤◌, ◌≡◌, ◌≢◌, ◌⊎◌, inl, inr, List, [], ◌∷◌, ◌++◌, Contains, sym, ◌∙◌, ap, arith, append_assoc}
 use Rattle.std.proofs.lemmas.List.Elements.{Contains-append_left, Contains-append_right, Contains-push}
 use Rattle.dn_act.specs.Words.{word_at}
 use Rattle.dn_record.specs.Record.{length_in_words}
-use Rattle.dn_model.specs.Regions.{gate, gate_at, directory, directory_at, place, bucket, bucket_at, IsLane}
+use Rattle.dn_model.specs.Regions.{gate, gate_at, directory, directory_at, place, bucket, IsLane}
 use Rattle.dn_model.specs.declared.logs.Placed.{Placed}
 use Rattle.dn_model.specs.Log.{Tiles, IsLog}
 use Rattle.dn_model.specs.Index.{Leads, IsChain}

@@ -1,4 +1,4 @@
-use Rattle.std.proofs.Common.{ℕ, ◌+◌, ◌<◌, ◌≤◌, ◌≡◌, ◌≢◌, inl, inr, List, [], ◌++◌, refl, sym, ◌∙◌, ap, subst, arith, slice_set, length}
+use Rattle.std.proofs.Common.{ℕ, ◌<◌, ◌≡◌, inl, inr, List, [], ◌++◌, refl, sym, ap, subst, arith, slice_set, length}
 use Rattle.std.proofs.Common.{append-nil}
 use Rattle.std.proofs.lemmas.Bool.{cases_eq}
 use Rattle.dn_word.specs.Gate.{gate_of}
@@ -12,10 +12,10 @@ use Rattle.dn_store.specs.State.{StoreState, with_at}
 use Rattle.dn_store.specs.Changes.{sealed, gated, marked, deeded}
 use Rattle.dn_store.specs.Cut.{IsCut}
 use Rattle.dn_store.specs.Represents.{Represents}
-use Rattle.dn_store.proofs.At.{at_same, at_other, at_by}
-use Rattle.dn_store.proofs.Stores.{IsStored, is_stored, aside, inside}
+use Rattle.dn_store.proofs.At.{at_by}
+use Rattle.dn_store.proofs.Stores.{is_stored, aside, inside}
 use Rattle.dn_store.proofs.Frames.{cut_more}
-use Rattle.dn_store.proofs.Tables.{itself, IsTurned, one_aside, TableChange, table_changed, table_log}
+use Rattle.dn_store.proofs.Tables.{itself, one_aside, table_changed, table_log}
 
 -- The words of lanes and slots: a gate, a mark, a deed.
 

@@ -8,3 +8,7 @@ pub mod Lanes
 pub mod Claims
 pub mod Flows
 pub mod Buckets
+pub mod Links
+pub mod Holding
+pub mod Same
+pub mod Fresh

@@ -1,16 +1,11 @@
-use Rattle.std.proofs.Common.{ℕ, zero, suc, ◌+◌, ◌<◌, ◌≡◌, ◌≢◌, ◌⊎◌, inl, inr, List, [], ◌∷◌, Contains, Option, Some, None, refl, sym, ◌∙◌, ap, subst, arith}
+use Rattle.std.proofs.Common.{ℕ, zero, suc, ◌+◌, ◌<◌, ◌≡◌, ◌≢◌, ◌⊎◌, inl, inr, List, [], ◌∷◌, Contains, Option, Some, None, refl, sym, ◌∙◌, ap, arith}
 use Rattle.std.proofs.lemmas.Bool.{cases_eq}
 use Rattle.std.proofs.lemmas.Bool.Decides.{nat_tests}
-use Rattle.dn_model.specs.Regions.{bucket, bucket_at, home_of}
-use Rattle.dn_model.specs.Same.{SameBuckets}
+use Rattle.dn_model.specs.Regions.{bucket, home_of}
 use Rattle.dn_model.specs.Index.{Slot, slots_of, slots, first_place, index}
-use Rattle.dn_model.proofs.ChainLaws.{or_else, met}
-use Rattle.dn_model.proofs.HashLaws.{home_below}
-use Rattle.dn_store.specs.State.{with_at}
-use Rattle.dn_store.specs.Standing.{InChain, IsPlaceOf, StandsOnce, Stands, IsIndexed}
-use Rattle.dn_store.proofs.At.{at_by}
+use Rattle.dn_model.proofs.ChainLaws.{met}
+use Rattle.dn_store.specs.Standing.{Stands}
 use Rattle.dn_store.proofs.Frames.{first_of, behind_first, first_or_behind, none_of}
-use Rattle.std.proofs.Common.{Bool, true, false, if◌then◌else◌, nat_eq, ◌++◌}
 
 -- ---- The place word at a key's only place is the one that the index gives.
 

@@ -1,10 +1,10 @@
-use Rattle.std.proofs.Common.{ℕ, ◌+◌, ◌<◌, ◌≡◌, ◌≢◌, ◌⊎◌, inl, inr, List, ◌∷◌, Contains, Option, Some, None, refl, sym, ◌∙◌, ap, subst, arith}
+use Rattle.std.proofs.Common.{ℕ, ◌+◌, ◌<◌, ◌≡◌, ◌≢◌, ◌⊎◌, inl, inr, List, Option, Some, None, sym, ◌∙◌, ap, subst, arith}
 use Rattle.std.proofs.lemmas.Bool.{cases_eq}
 use Rattle.dn_act.specs.Words.{word_at}
 use Rattle.dn_model.specs.Regions.{bucket, bucket_at, home_of}
 use Rattle.dn_model.proofs.HashLaws.{home_below}
 use Rattle.dn_store.specs.State.{with_at}
-use Rattle.dn_store.specs.Standing.{InChain, IsPlaceOf, StandsOnce, Stands, IsIndexed}
+use Rattle.dn_store.specs.Standing.{InChain, IsPlaceOf, Stands, IsIndexed}
 use Rattle.dn_store.proofs.At.{at_by}
 use Rattle.dn_store.proofs.Stores.{IsStored}
 
@@ -60,7 +60,7 @@ key_stays words now chains b i new k il s old fresh = stored_stays words now cha
     | inl was ↦ old (sym (ap (λ x. word_at words x) f) ∙ was)
     | inr is ↦ fresh (sym s.here ∙ sym (ap (λ x. word_at now x) f) ∙ is)
   ],
-  λ f. absurd (omega (arith, f, il, p.three))
+  λ f. absurd (omega (arith, f, il, p.three)),
 ))
 
 -- the place word of a place: other keys than the one beside it
@@ -70,17 +70,17 @@ place_stays words now chains b i new k il s other =
     stored_stays words now chains (bucket_at b (i + 4)) new k s (λ c j p e. (
       keys c j p.three,
       λ f. let same : bucket_at c (j + 1) ≡ bucket_at b (i + 1) = omega (arith, f) in
-      other (sym (ap (λ x. word_at words x) same) ∙ elim e [ inl was ↦ was | inr is ↦ sym (s.other (bucket_at c (j + 1)) (keys c j p.three)) ∙ is ])
+          other (sym (ap (λ x. word_at words x) same) ∙ elim e [ inl was ↦ was | inr is ↦ sym (s.other (bucket_at c (j + 1)) (keys c j p.three)) ∙ is ]),
     ))
 
 -- any word of a bucket that is in no chain
 pub loose_stays : (words now : List ℕ) (chains : ℕ → List ℕ) (b w new k : ℕ) → w < 8 → IsStored words now (bucket_at b w) new → ((h : ℕ) → h < 4096 → InChain chains h b → ⊥) → Stays words now chains chains k
 loose_stays words now chains b w new k wl s loose = stored_stays words now chains (bucket_at b w) new k s (λ c j p e.
-  let far : (i : ℕ) → i < 8 → bucket_at c i ≢ bucket_at b w = λ i il f.
+    let far : (i : ℕ) → i < 8 → bucket_at c i ≢ bucket_at b w = λ i il f.
     let same : c ≡ b = omega (arith, f, wl, il) in
     let P : ℕ → Type 0 = λ x. InChain chains (home_of k) x in
     loose (home_of k) (home_below k) (subst P same p.has)
-  in (far (j + 1) (omega (arith, p.three)), far (j + 4) (omega (arith, p.three))))
+    in (far (j + 1) (omega (arith, p.three)), far (j + 4) (omega (arith, p.three))))
 
 -- ---- the shape of the index where the chains stay: what is stored in a key word is 0 or a key of that chain
 pub stored_shape : (words now : List ℕ) (chains : ℕ → List ℕ) (index : ℕ → Option ℕ) (at new : ℕ) → IsIndexed words chains index → IsStored words now at new

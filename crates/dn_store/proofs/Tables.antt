@@ -1,8 +1,7 @@
-use Rattle.std.proofs.Common.{ℕ, ◌+◌, ◌<◌, ◌≤◌, ◌≡◌, ◌≢◌, inl, inr, List, [], length, Option, refl, sym, ◌∙◌, ap, subst, arith}
+use Rattle.std.proofs.Common.{ℕ, ◌+◌, ◌<◌, ◌≤◌, ◌≡◌, ◌≢◌, inr, List, [], Option, refl, sym, ◌∙◌, subst, arith}
 use Rattle.dn_word.specs.Gate.{gate_of}
 use Rattle.dn_word.specs.Deed.{deed_of}
-use Rattle.dn_act.specs.Words.{word_at}
-use Rattle.dn_model.specs.Regions.{gate_at, directory_at, place, bucket_at, IsLane}
+use Rattle.dn_model.specs.Regions.{gate_at, directory_at, bucket_at, IsLane}
 use Rattle.dn_model.specs.Log.{IsLog}
 use Rattle.dn_store.specs.State.{StoreState}
 use Rattle.dn_store.specs.Cut.{IsCut}
@@ -13,7 +12,7 @@ use Rattle.dn_store.specs.Overflow.{IsOverflow}
 use Rattle.dn_store.specs.Represents.{IsTable, Represents}
 use Rattle.dn_store.proofs.Stores.{IsStored, Turns, turned, aside, Turns_one, one_turned}
 use Rattle.dn_store.proofs.Frames.{log_stays, chain_stays, space_stays, overflow_stays}
-use Rattle.dn_store.proofs.Standings.{index_stays, stored_shape, Stays}
+use Rattle.dn_store.proofs.Standings.{index_stays, stored_shape}
 
 -- The table of words that say one thing each, and the words behind it.
 
@@ -99,11 +98,11 @@ table_changed words now chains s t at new c h =
       space = space_stays words now t.pool t.segment_count t.holders (λ n q l lt. c.stored.other (directory_at n q) (λ e. absurd (omega (arith, e, low)))) c.space;
       cell_space = c.cell_space;
       indexed = subst P (sym c.index) (index_stays words now chains chains s.index h.indexed
-        (stored_shape words now chains s.index at new h.indexed c.stored (λ g b i _ _ _ e _. absurd (buckets b (i + 1) e)))
-        (λ k pos. record {
-          back = λ b i p e. (p, sym (c.stored.other (bucket_at b (i + 1)) (buckets b (i + 1))) ∙ e);
-          forth = λ b i p e. (p, c.stored.other (bucket_at b (i + 1)) (buckets b (i + 1)) ∙ e, c.stored.other (bucket_at b (i + 4)) (buckets b (i + 4)));
-        }));
+          (stored_shape words now chains s.index at new h.indexed c.stored (λ g b i _ _ _ e _. absurd (buckets b (i + 1) e)))
+          (λ k pos. record {
+            back = λ b i p e. (p, sym (c.stored.other (bucket_at b (i + 1)) (buckets b (i + 1))) ∙ e);
+            forth = λ b i p e. (p, c.stored.other (bucket_at b (i + 1)) (buckets b (i + 1)) ∙ e, c.stored.other (bucket_at b (i + 4)) (buckets b (i + 4)));
+          }));
       overflow = overflow_stays words now chains t.bucket_count t.takers (λ b i _ _ _. c.stored.other (bucket_at b i) (buckets b i)) (λ b i _ _ _ _. c.stored.other (bucket_at b i) (buckets b i)) c.overflow;
     }
 

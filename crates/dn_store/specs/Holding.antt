@@ -1,7 +1,5 @@
-use Rattle.std.specs.Prelude.{ℕ, max, List, Option, Some, None}
+use Rattle.std.specs.Prelude.{ℕ, List, Option, Some, None}
 use Rattle.dn_word.specs.Ref.{ref_of}
-use Rattle.dn_word.specs.declared.packed.gate.Gate.{Gate}
-use Rattle.dn_word.specs.declared.packed.deed.Deed.{Deed}
 use Rattle.dn_record.specs.declared.records.Record.{Record}
 use Rattle.dn_record.specs.declared.records.Record.TheVariants.{Put, Delete, Share, Unshare, Loose, LooseDelete, Pad}
 use Rattle.dn_model.specs.Regions.{slot_of}
