@@ -9,3 +9,4 @@ pub mod Represents
 pub mod Holding
 pub mod SameStore
 pub mod Fresh
+pub mod Plain

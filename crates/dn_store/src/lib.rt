@@ -2,3 +2,6 @@
 #![tactic(auto)]
 
 pub mod laws;
+mod plain;
+
+pub use plain::{Entry, Held, PlainStore};
