@@ -5,3 +5,6 @@ pub mod laws;
 mod plain;
 
 pub use plain::{Entry, Held, PlainStore};
+
+#[cfg(test)]
+mod tests;
