@@ -22,8 +22,8 @@ struct Filled {
     entry: Entry,
 }
 
-/// A pool: the logs and marks of lanes 1 and 2, each with one segment, the deed of the slot, the filled places of chains and of a
-/// bucket that isn't linked, the bucket behind the home bucket (0 for none), and cell 0.
+/// A pool: the logs and marks of lanes 1 and 2, each with one segment, the deed of the slot, the filled places of
+/// chains and of a bucket that isn't linked, the bucket behind the home bucket (0 for none), and cell 0.
 #[derive(Clone, Copy)]
 struct Pool<'a> {
     logs: [&'a [u64]; 2],
