@@ -1,0 +1,14 @@
+pub mod At
+pub mod Stores
+pub mod Frames
+pub mod Places
+pub mod Standings
+pub mod Tables
+pub mod Lanes
+pub mod Claims
+pub mod Flows
+pub mod Buckets
+pub mod Links
+pub mod Holding
+pub mod Same
+pub mod Fresh

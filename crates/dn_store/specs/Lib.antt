@@ -1,0 +1,12 @@
+pub mod State
+pub mod Changes
+pub mod Cut
+pub mod Space
+pub mod CellSpace
+pub mod Standing
+pub mod Overflow
+pub mod Represents
+pub mod Holding
+pub mod SameStore
+pub mod Fresh
+pub mod Plain
