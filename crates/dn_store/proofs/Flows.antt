@@ -1,4 +1,5 @@
 use Rattle.std.proofs.Common.{ℕ, ◌+◌, ◌*◌, ◌/◌, ◌%◌, ◌<◌, ◌≤◌, ◌≡◌, ◌≢◌, ◌⊎◌, inl, inr, List, sym, ◌∙◌, ap, subst, arith, slice_set}
+use Rattle.std.proofs.lemmas.List.{set-get_or}
 use Rattle.std.proofs.lemmas.Nat.{same_from_place, mod_below}
 use Rattle.std.proofs.lemmas.Bool.{cases_eq}
 use Rattle.dn_word.specs.declared.packed.gate.Gate.{Gate}
@@ -66,6 +67,10 @@ segment_flow words chains s n g o word h l own past =
     absurd (omega (arith, le, len, below, same.1)))
     (h.reads.logs_are m k))
     (space_stays words now s.pool s.segment_count s.holders (λ m q k ql. st.other (directory_at m q) (λ e. absurd (omega (arith, e, ql, k.below)))) h.space)
+
+-- ---- a word that stands already
+pub again : (words : List ℕ) (chains : ℕ → List ℕ) (s : StoreState) (at word : ℕ) → Represents words chains s → word_at words at ≡ word → Represents (slice_set words at word) chains s
+again words chains s at word h e = let P : List ℕ → Type 0 = λ x. Represents x chains s in subst P (sym (ap (λ w. slice_set words at w) (sym e) ∙ set-get_or words at 0)) h
 
 -- ---- a word of lane n's directory, which says nothing yet, comes to name a segment that the lane holds and hasn't named
 pub directory_flow : (words : List ℕ) (chains : ℕ → List ℕ) (s : StoreState) (n q g : ℕ) → Represents words chains s → IsLane n → q < 256 → s.holders g ≡ n → directory words n q ≡ 0

@@ -30,5 +30,6 @@ Stands words chains k (Some p) = StandsOnce words chains k p
 pub record IsIndexed (words : List ℕ) (chains : ℕ → List ℕ) (index : ℕ → Option ℕ) : Type 0 where
   pub below : (home b : ℕ) → home < 4096 → InChain chains home b → b < 8192
   pub apart : (g h b : ℕ) → g < 4096 → h < 4096 → InChain chains g b → InChain chains h b → g ≡ h
-  pub homed : (h b i : ℕ) → h < 4096 → InChain chains h b → i < 3 → 0 < bucket words b (i + 1) → home_of (bucket words b (i + 1)) ≡ h
+  pub homed : (h b i : ℕ) → h < 4096 → InChain chains h b → i < 3 → 0 < bucket words b (i + 1)
+      → home_of (bucket words b (i + 1)) ≡ h
   pub stands : (k : ℕ) → 0 < k → Stands words chains k (index k)

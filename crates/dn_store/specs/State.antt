@@ -22,8 +22,8 @@ pub record StoreState : Type 0 where
   pub segment_count : ℕ
   pub cell_count : ℕ
   pub bucket_count : ℕ
-  -- Ghosts, which no word tells. The lane that claimed a segment or a cell, for ever, and the lane whose merger claimed an overflow
-  -- bucket and hasn't linked it: each 0 where there is none.
+  -- Ghosts, which no word tells. The lane that claimed a segment or a cell, for ever, and the lane whose merger claimed
+  -- an overflow bucket and hasn't linked it: each 0 where there is none.
   pub holders : ℕ → ℕ
   pub cell_holders : ℕ → ℕ
   pub takers : ℕ → ℕ

@@ -1,8 +1,9 @@
-//! What is so of stores and the words that represent them, as functions without work: what each says is its contract. Each law of an
-//! action holds of the words as they stand when it is done, whatever other actors changed before.
+//! What is so of stores and the words that represent them, as functions without work: what each says is its contract.
+//! Each law of an action holds of the words as they stand when it is done, whatever other actors changed before.
 
 ghost use Rattle.std.specs.Prelude.{◌≡◌, ◌≢◌, ◌≤◌, ◌<◌, ◌+◌, ◌*◌, ◌%◌, ◌++◌, ◌∷◌, ℕ, List, Option, Some, None, slice_set};
 ghost use Rattle.dn_word.specs.Gate.{gate_of};
+ghost use Rattle.dn_act.specs.Words.{word_at};
 ghost use Rattle.dn_word.specs.Deed.{deed_of};
 ghost use Rattle.dn_word.specs.Regions.{segment_counter_at, cell_counter_at, overflow_counter_at, cell_key_at};
 ghost use Rattle.dn_record.specs.Record.{length_in_words};
@@ -20,15 +21,16 @@ ghost use Rattle.dn_store.specs.Holding.{authority_in, holds};
 ghost use Rattle.dn_store.specs.SameStore.{IsSameStore};
 ghost use Rattle.dn_store.specs.Fresh.{IsFreshPool, fresh_store, no_overflow};
 
-/// The pool that an opening leaves for 1 to 63 lanes represents a store with empty logs and an empty index.
+/// The pool that an opening leaves for 1 to 63 lanes, also where some of its grants failed, represents a store with empty
+/// logs and an empty index.
 pub fn opening()
     ensures { (words : List ℕ) (pool lanes : ℕ) (owners : ℕ → ℕ)
         → IsFreshPool words pool lanes owners
         → Represents words no_overflow (fresh_store pool owners) }
 {}
 
-/// Words represent one store, but for who claimed what, and one chain of each home bucket. Authority and value of each key are those
-/// of the store.
+/// Words represent one store, but for who claimed what, and one chain of each home bucket. Authority and value of each
+/// key are those of the store.
 pub fn meaning()
     ensures store { (words : List ℕ) (chains others : ℕ → List ℕ) (s t : StoreState)
         → Represents words chains s → Represents words others t → IsSameStore s t }
@@ -43,8 +45,9 @@ pub fn meaning()
         → Represents words chains s → IsLane n → s.marks n ≤ (s.gates n).len }
 {}
 
-/// A staged word flows and the store stays: to a segment that the lane holds, at no offset below its sealed length; to a word of its
-/// directory that named nothing, and then names a segment that the lane holds and hasn't named.
+/// A staged word flows and the store stays: to a segment that the lane holds, at no offset below its sealed length; to a
+/// word of its directory that named nothing, and then names a segment that the lane holds and hasn't named. So it does
+/// where any word is stored where it stands already.
 pub fn flows()
     ensures segment { (words : List ℕ) (chains : ℕ → List ℕ) (s : StoreState) (n g o word : ℕ)
         → Represents words chains s → IsLane n → s.holders g ≡ n
@@ -55,10 +58,14 @@ pub fn flows()
         → Represents words chains s → IsLane n → q < 256 → s.holders g ≡ n
         → directory words n q ≡ 0 → ((r : ℕ) → r < 256 → directory words n r ≢ g + 1)
         → Represents (slice_set words (directory_at n q) (g + 1)) chains s }
+    ensures again { (words : List ℕ) (chains : ℕ → List ℕ) (s : StoreState) (at word : ℕ)
+        → Represents words chains s → word_at words at ≡ word
+        → Represents (slice_set words at word) chains s }
 {}
 
-/// The words of lanes and slots. A gate's exchange seals the records that stand behind the length, or keeps the length, where the
-/// stamp is raised or the bit is set. A mark is where a record of the log begins, or at its end; a deed may be any.
+/// The words of lanes and slots. A gate's exchange seals the records that stand behind the length, or keeps the length,
+/// where the stamp is raised or the bit is set. A mark is where a record of the log begins, or at its end; a deed may
+/// be any.
 pub fn lanes()
     ensures seal { (words : List ℕ) (chains : ℕ → List ℕ) (s : StoreState) (n new : ℕ)
         (more : List Placed) → Represents words chains s → IsLane n
@@ -109,8 +116,8 @@ pub fn cells()
         → Represents (slice_set words (cell_at j) new) chains (celled s j new) }
 {}
 
-/// A place of a chain: its place word while it is free, which changes nothing; the place word beside its key; the key word of a free
-/// place, for a key that the index doesn't give; and 0 for its key word.
+/// A place of a chain: its place word while it is free, which changes nothing; the place word beside its key; the key
+/// word of a free place, for a key that the index doesn't give; and 0 for its key word.
 pub fn places()
     ensures free { (words : List ℕ) (chains : ℕ → List ℕ) (s : StoreState) (k b i new : ℕ)
         → Represents words chains s → IsPlaceOf chains k b i → bucket words b (i + 1) ≡ 0
@@ -131,8 +138,8 @@ pub fn places()
         → Represents (slice_set words (bucket_at b (i + 1)) 0) chains (indexed s k None) }
 {}
 
-/// Overflow buckets: an add to their counter claims one for a lane's merger, or finds none left; place and key stored in a bucket that
-/// isn't linked change nothing; the next word that links it changes the index at its key.
+/// Overflow buckets: an add to their counter claims one for a lane's merger, or finds none left; place and key stored
+/// in a bucket that isn't linked change nothing; the next word that links it changes the index at its key.
 pub fn buckets()
     ensures claim { (words : List ℕ) (chains : ℕ → List ℕ) (s : StoreState) (n : ℕ)
         → Represents words chains s → s.bucket_count < 4096

@@ -12,7 +12,8 @@ use dn_word::{Deed, List, Ref, Value, slot_of};
 
 /// What is held at a key.
 pub enum Held<'a> {
-    /// The index leads to no authority record of the key, or a place names neither a value of it nor that there is none.
+    /// The index leads to no authority record of the key, or a place names neither a value of it nor that there is
+    /// none.
     Astray,
     /// Nothing.
     Nothing,
@@ -29,8 +30,8 @@ pub struct Entry {
     pub place: u64,
 }
 
-/// The parts of a store that decide what it holds, as lists. What a list doesn't have counts as empty: as a log without records, as
-/// 0, as a deed of nobody.
+/// The parts of a store that decide what it holds, as lists. What a list doesn't have counts as empty: as a log without
+/// records, as 0, as a deed of nobody.
 #[derive(Drop)]
 pub struct PlainStore {
     /// The sealed logs by the numbers of their lanes, from 0.
@@ -230,8 +231,8 @@ impl PlainStore {
         }
     }
 
-    /// What the store holds at a key, by the definition and nothing faster: the record that waits in its owner's log says it, or else
-    /// the one to which the index leads.
+    /// What the store holds at a key, by the definition and nothing faster: the record that waits in its owner's log
+    /// says it, or else the one to which the index leads.
     pub fn held(&self, key: u64) -> Held<'_>
         ensures { told result ≡ holds (store_of self.now) key }
     {
