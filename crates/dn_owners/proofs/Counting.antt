@@ -77,7 +77,7 @@ last_of k c d o (p ∷ ps) = by_tests (λ x. last_of k c d x ps) (nat_le d p.off
   by_tests rest true u e f =
       let same : (is_authority k p.entry && nat_le c p.offset) ≡ u = both (is_authority k p.entry) u e f in
       ap (λ xs. last_or (pending_as k o) xs) (filter-append (counts k c) (pending_of p.offset p.entry) (pending_in later)
-          ∙ ap (λ xs. xs ++ filter (counts k c) (pending_in later)) (of_record k c p.offset p.entry ∙ ap (λ b. if b then pending_at k p.offset ∷ [] else []) same))
+      ∙ ap (λ xs. xs ++ filter (counts k c) (pending_in later)) (of_record k c p.offset p.entry ∙ ap (λ b. if b then pending_at k p.offset ∷ [] else []) same))
       ∙ step rest u
     where
       both : (a u : Bool) → nat_le d p.offset ≡ true → (nat_le (max c d) p.offset && a) ≡ u → (a && nat_le c p.offset) ≡ u
@@ -139,14 +139,14 @@ counting_none o n k c h w l e f m =
     let a : ℕ = max c.from (o.knows n).dropped in
     let none : unmerged k a (s.logs n) ≡ None = as_none k (last_placed k a (s.logs n)) (sym (last_is o n k c x) ∙ f) in
     found_none k (s.marks m) (s.logs m) (λ p q.
-        let mine : m ≡ n = sym (h.one.each m k p q.has q.from q.authority) ∙ w.names in
-        let P : ℕ → Type 0 = λ y. Contains (s.logs y) p in
-        let has : Contains (s.logs n) p = subst P mine q.has in
-        let from : s.marks n ≤ p.offset = omega (arith, q.from, ap s.marks mine) in
-        let known = (h.counted n).each k p w has from q.authority in
-        let same : known.of ≡ c = same_some known.of c (sym known.is ∙ l) in
-        none_found k a (s.logs n) p none (record {
-          has = has;
-          from = omega (arith, known.before, ap (λ (y : Learnt). y.from) same, (h.pending n).low w.is_running, from);
-          authority = q.authority;
-        }))
+    let mine : m ≡ n = sym (h.one.each m k p q.has q.from q.authority) ∙ w.names in
+    let P : ℕ → Type 0 = λ y. Contains (s.logs y) p in
+    let has : Contains (s.logs n) p = subst P mine q.has in
+    let from : s.marks n ≤ p.offset = omega (arith, q.from, ap s.marks mine) in
+    let known = (h.counted n).each k p w has from q.authority in
+    let same : known.of ≡ c = same_some known.of c (sym known.is ∙ l) in
+    none_found k a (s.logs n) p none (record {
+      has = has;
+      from = omega (arith, known.before, ap (λ (y : Learnt). y.from) same, (h.pending n).low w.is_running, from);
+      authority = q.authority;
+    }))

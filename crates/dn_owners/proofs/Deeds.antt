@@ -1,4 +1,4 @@
-use Rattle.std.proofs.Common.{ℕ, ◌<◌, ◌≤◌, ◌≡◌, inl, inr, max, Option, Some, None, refl, sym, ◌∙◌, ap, subst, arith}
+use Rattle.std.proofs.Common.{ℕ, ◌≡◌, inl, inr, max, Option, Some, refl, sym, ◌∙◌, ap, subst, arith}
 use Rattle.dn_word.specs.declared.packed.gate.Gate.{Gate}
 use Rattle.dn_word.specs.declared.packed.deed.Deed.{Deed}
 use Rattle.dn_word.specs.declared.packed.deed.DeedState.{DeedState}
@@ -7,7 +7,6 @@ use Rattle.dn_record.specs.declared.records.Record.{Record}
 use Rattle.dn_model.specs.Regions.{slot_of}
 use Rattle.dn_model.specs.Held.{Found}
 use Rattle.dn_store.specs.State.{StoreState, with_at}
-use Rattle.dn_store.specs.Holding.{authority_in}
 use Rattle.dn_store.proofs.At.{at_by}
 use Rattle.dn_owners.specs.Known.{Look, Watch, Owners}
 use Rattle.dn_owners.specs.Sound.{IsOrdered, IsLive, IsHeld, IsWatched, Owns, Agrees, bound_by, IsSound}

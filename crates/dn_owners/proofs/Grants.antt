@@ -1,7 +1,7 @@
-use Rattle.std.proofs.Common.{ℕ, ◌<◌, ◌≤◌, ◌≡◌, ◌≢◌, inl, inr, true, false, max, List, [], Contains, Option, Some, None, refl, sym, ◌∙◌, ap, subst, arith}
-use Rattle.std.proofs.lemmas.Bool.{cases_eq, false≢true}
+use Rattle.std.proofs.Common.{ℕ, ◌≤◌, ◌≡◌, ◌≢◌, inl, inr, true, false, List, Contains, Option, Some, None, sym, ◌∙◌, ap, subst, arith}
+use Rattle.std.proofs.lemmas.Bool.{cases_eq}
 use Rattle.dn_word.specs.declared.packed.deed.Deed.{Deed}
-use Rattle.dn_word.specs.declared.packed.deed.DeedState.TheVariants.{Nobody, Owned, Leaving}
+use Rattle.dn_word.specs.declared.packed.deed.DeedState.TheVariants.{Nobody}
 use Rattle.dn_record.specs.declared.records.Record.{Record}
 use Rattle.dn_model.specs.Regions.{slot_of}
 use Rattle.dn_model.specs.declared.logs.Placed.{Placed}
@@ -11,7 +11,7 @@ use Rattle.dn_store.specs.Changes.{deeded}
 use Rattle.dn_store.specs.Holding.{waiting, authority_in}
 use Rattle.dn_store.proofs.At.{at_same, at_other, at_by}
 use Rattle.dn_owners.specs.Known.{Look, Watch, Owners}
-use Rattle.dn_owners.specs.Sound.{IsOrdered, IsLive, IsHeld, Agrees, Owns, bound_by, IsSound}
+use Rattle.dn_owners.specs.Sound.{IsOrdered, IsLive, IsHeld, Agrees, Owns, IsSound}
 use Rattle.dn_owners.specs.Events.{Grant, Adopt, happens}
 use Rattle.dn_owners.specs.Given.{IsNewDeed, IsGrant, IsAdoption}
 use Rattle.dn_owners.proofs.Ats.{none_some}
@@ -60,8 +60,14 @@ idle_grant o t d i h g =
           let Q : List Placed → Type 0 = λ x. Contains x p in
           absurd (nil_has p (subst Q i.nobody (subst P lane c)));
       unlooked = λ n l q b e. nobody_live (o.store.deeds l.slot) (ap (λ x. (o.store.deeds x).state) e ∙ g.was) ((h.looks n).held l q b).live;
-      floor = λ k e. omega (arith, h.stamps.each k, ap (λ x. (o.store.deeds x).floor) e, g.new.floor, h.idle.stamp,
-          ap (λ x. (o.store.gates x).stamp) (ap (λ x. (o.store.deeds x).lane) e ∙ none));
+      floor = λ k e. omega (
+        arith,
+        h.stamps.each k,
+        ap (λ x. (o.store.deeds x).floor) e,
+        g.new.floor,
+        h.idle.stamp,
+        ap (λ x. (o.store.gates x).stamp) (ap (λ x. (o.store.deeds x).lane) e ∙ none),
+      );
     }
 
 -- ---- no authority changes: nothing of the slot waits with the old owner or the new one
@@ -123,8 +129,11 @@ granted_kept o t d h g =
       stamps = record {
         each = λ k. elim (cases_eq (slot_of k) t) [
           | inl e ↦ omega (arith, g.floor k e, ap (λ (x : Deed). x.floor) (here (slot_of k) e))
-          | inr ne ↦ omega (arith, h.stamps.each k,
-              bound_same s.deeds deeds s.gates k (ap (λ (x : Deed). x.lane) (other (slot_of k) ne)) (ap (λ (x : Deed). x.floor) (other (slot_of k) ne)))
+          | inr ne ↦ omega (
+            arith,
+            h.stamps.each k,
+            bound_same s.deeds deeds s.gates k (ap (λ (x : Deed). x.lane) (other (slot_of k) ne)) (ap (λ (x : Deed). x.floor) (other (slot_of k) ne)),
+          )
         ];
       };
       watched = λ v e. absurd (none_some v e);

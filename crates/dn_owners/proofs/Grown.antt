@@ -1,13 +1,13 @@
-use Rattle.std.proofs.Common.{ℕ, ◌≤◌, ◌≡◌, Bool, true, false, max, List, [], ◌++◌, Option, Some, None, sym, ◌∙◌, ap, subst, arith, append-nil}
+use Rattle.std.proofs.Common.{ℕ, ◌≤◌, ◌≡◌, Bool, true, max, List, [], ◌++◌, Option, Some, None, sym, ◌∙◌, ap, subst, arith, append-nil}
 use Rattle.dn_word.specs.declared.packed.gate.Gate.{Gate}
 use Rattle.dn_word.specs.declared.packed.deed.Deed.{Deed}
 use Rattle.dn_model.specs.Regions.{slot_of}
 use Rattle.dn_model.specs.declared.logs.Placed.{Placed}
-use Rattle.dn_store.specs.State.{StoreState, with_at}
+use Rattle.dn_store.specs.State.{with_at}
 use Rattle.dn_store.proofs.At.{at_by}
 use Rattle.dn_store.specs.Changes.{gated, deeded}
 use Rattle.dn_owners.specs.Known.{Knows, Watch, Owners}
-use Rattle.dn_owners.specs.Sound.{IsLearnt, IsLooking, IsPast, IsCounted, IsTold, Owns, Agrees}
+use Rattle.dn_owners.specs.Sound.{IsLooking, IsPast, IsCounted, IsTold, Owns}
 use Rattle.dn_model.specs.Held.{Found}
 use Rattle.dn_record.specs.declared.records.Record.{Record}
 use Rattle.dn_owners.specs.Events.{Event, Look_known, Look_new, End, Raise, Seal, Promise, Trim, Set, Pass, Fence, Leave, Release, Watches, Grant, Adopt, Stop, Begin, happens}

@@ -53,8 +53,10 @@ rise_before a (x ∷ xs) after p q r c = elim (cons_cases x xs q c) [
 -- ---- records that tile a log stand in order
 tiled_rise : (w : ℕ → ℕ) (o end : ℕ) (log : List Placed) → Tiles w o log end → Rise o log
 tiled_rise w o end [] h = tt
-tiled_rise w o end (p ∷ ps) h = (omega (arith, h.0),
-  rise_low (o + length_in_words p.entry) (p.offset + 1) ps (omega (arith, h.0, some_words p.entry h.1.is_record)) (tiled_rise w (o + length_in_words p.entry) end ps h.2))
+tiled_rise w o end (p ∷ ps) h = (
+  omega (arith, h.0),
+  rise_low (o + length_in_words p.entry) (p.offset + 1) ps (omega (arith, h.0, some_words p.entry h.1.is_record)) (tiled_rise w (o + length_in_words p.entry) end ps h.2),
+)
 
 tiled_below : (w : ℕ → ℕ) (o end : ℕ) (log : List Placed) (p : Placed) → Tiles w o log end → Contains log p → p.offset < end
 tiled_below w o end [] p h c = absurd (nil_has p c)

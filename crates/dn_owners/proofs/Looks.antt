@@ -1,18 +1,16 @@
 use Rattle.std.proofs.Common.{ℕ, ◌≤◌, ◌≡◌, inl, inr, Bool, true, false, max, List, [], Contains, Option, Some, None, refl, sym, ◌∙◌, ap, subst, arith}
 use Rattle.std.proofs.lemmas.Bool.{false≢true}
-use Rattle.dn_word.specs.declared.packed.gate.Gate.{Gate}
 use Rattle.dn_word.specs.declared.packed.deed.Deed.{Deed}
 use Rattle.dn_word.specs.declared.packed.deed.DeedState.TheVariants.{Released}
-use Rattle.dn_record.specs.declared.records.Record.{Record}
 use Rattle.dn_model.specs.Regions.{slot_of}
 use Rattle.dn_model.specs.declared.logs.Placed.{Placed}
-use Rattle.dn_model.specs.Held.{Found, is_authority, unmerged}
+use Rattle.dn_model.specs.Held.{unmerged}
 use Rattle.dn_store.specs.State.{StoreState, with_at}
 use Rattle.dn_store.specs.Holding.{authority_in}
 use Rattle.dn_store.proofs.At.{at_same, at_by}
 use Rattle.dn_owners.specs.Counting.{pending_from}
 use Rattle.dn_owners.specs.Known.{Look, Learnt, Knows, Watch, Owners, knowing_nothing}
-use Rattle.dn_owners.specs.Sound.{IsOrdered, IsLive, IsHeld, IsLearnt, IsLooking, IsPast, IsPending, IsCounted, IsTold, Agrees, Owns, IsSound}
+use Rattle.dn_owners.specs.Sound.{IsOrdered, IsLive, IsHeld, IsLearnt, IsLooking, IsPast, IsPending, IsCounted, IsTold, Agrees, IsSound}
 use Rattle.dn_owners.specs.Events.{Look_known, Look_new, End, Promise, Stop, Begin, learns, happens}
 use Rattle.dn_owners.specs.Given.{IsOwner, IsPromise, At_gate, Again, IsGiven}
 use Rattle.dn_owners.proofs.Ats.{at_kept, same_some, none_some}
@@ -88,13 +86,13 @@ look_new_kept o n l i h g =
         each = λ k p w c le a.
             let old = (h.counted n).each k p w c le a in
             at_by (λ y. IsLearnt y (s.deeds (slot_of k)).epoch p.offset) was.learnt l.slot (Some new) (slot_of k)
-                (λ f. absurd (g.1 (old.of, ap was.learnt (sym f) ∙ old.is, old.same ∙ ap (λ y. (s.deeds y).epoch) f ∙ g.0.epoch)))
-                (λ d. old);
+            (λ f. absurd (g.1 (old.of, ap was.learnt (sym f) ∙ old.is, old.same ∙ ap (λ y. (s.deeds y).epoch) f ∙ g.0.epoch)))
+            (λ d. old);
       };
       told = record {
         each = λ k c r w. at_by (λ y. y ≡ Some c → c.epoch ≡ (s.deeds (slot_of k)).epoch → unmerged k c.from (s.logs n) ≡ Some r → Agrees (authority_in s k) k r) was.learnt l.slot (Some new) (slot_of k)
             (λ f q e u. let x = last_found k c.from (s.logs n) r u in
-                absurd (omega (arith, x.found.from, ap (λ (y : Learnt). y.from) (same_some new c q), i.below n x.of x.found.has)))
+            absurd (omega (arith, x.found.from, ap (λ (y : Learnt). y.from) (same_some new c q), i.below n x.of x.found.has)))
             (λ d q. (h.told n).each k c r w q);
       };
     })
@@ -163,7 +161,7 @@ promise_kept o n k stamp h g =
       stamps = record {
         each = λ q. at_by (λ x. x ≤ max (s.deeds (slot_of q)).floor (s.gates (s.deeds (slot_of q)).lane).stamp) o.promised k (max (o.promised k) stamp) q
             (λ e. let P : ℕ → Type 0 = λ y. max (o.promised k) stamp ≤ max (s.deeds (slot_of y)).floor (s.gates (s.deeds (slot_of y)).lane).stamp in
-                subst P (sym e) (omega (arith, h.stamps.each k, upto g)))
+            subst P (sym e) (omega (arith, h.stamps.each k, upto g)))
             (λ d. h.stamps.each q);
       };
       watched = λ w e. let was = h.watched w e in record {

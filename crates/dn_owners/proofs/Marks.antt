@@ -5,7 +5,7 @@ use Rattle.dn_record.specs.declared.records.Record.{Record}
 use Rattle.dn_record.specs.declared.records.Record.TheVariants.{Delete}
 use Rattle.dn_model.specs.declared.logs.Placed.{Placed}
 use Rattle.dn_model.specs.Held.{Found, Says, Astray, is_authority, unmerged, record_at, authority_by, led_to}
-use Rattle.dn_store.specs.State.{StoreState, with_at}
+use Rattle.dn_store.specs.State.{StoreState}
 use Rattle.dn_store.specs.Changes.{marked}
 use Rattle.dn_store.specs.Holding.{owner_in, authority_in}
 use Rattle.dn_store.proofs.At.{at_by}

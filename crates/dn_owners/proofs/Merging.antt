@@ -1,8 +1,7 @@
-use Rattle.std.proofs.Common.{ℕ, ◌≡◌, ◌≢◌, inl, inr, Option, Some, None, refl, sym, ◌∙◌, ap, arith}
+use Rattle.std.proofs.Common.{ℕ, ◌≡◌, ◌≢◌, inl, inr, Option, None, refl, sym, ◌∙◌, ap, arith}
 use Rattle.std.proofs.lemmas.Bool.{cases_eq}
 use Rattle.dn_model.specs.Regions.{slot_of, home_of}
 use Rattle.dn_model.specs.declared.logs.Placed.{Placed}
-use Rattle.dn_store.specs.State.{with_at}
 use Rattle.dn_store.specs.Holding.{owner_in, waiting}
 use Rattle.dn_store.proofs.At.{at_other}
 use Rattle.dn_owners.specs.Known.{Owners}

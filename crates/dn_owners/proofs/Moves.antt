@@ -1,4 +1,4 @@
-use Rattle.std.proofs.Common.{ℕ, ◌≡◌, ◌⊎◌, inl, inr, List, Option, Some, None, refl, sym, ◌∙◌, ap, subst}
+use Rattle.std.proofs.Common.{ℕ, ◌≡◌, ◌⊎◌, inl, inr, List, Option, Some, None, sym, ◌∙◌, ap, subst}
 use Rattle.dn_word.specs.declared.packed.gate.Gate.{Gate}
 use Rattle.dn_word.specs.declared.packed.deed.Deed.{Deed}
 use Rattle.dn_record.specs.declared.records.Record.{Record}

@@ -1,5 +1,4 @@
-use Rattle.std.proofs.Common.{ℕ, ◌+◌, ◌≤◌, ◌≡◌, ◌≢◌, ◌⊎◌, inl, inr, Bool, true, false, nat_le, cond, List, [], ◌∷◌, ◌++◌, append_assoc, Contains, Option, Some, None, refl, sym, ◌∙◌, ap, subst, arith}
-use Rattle.std.proofs.lemmas.Bool.{false≢true}
+use Rattle.std.proofs.Common.{ℕ, ◌+◌, ◌≤◌, ◌≡◌, ◌≢◌, ◌⊎◌, inl, inr, Bool, true, nat_le, cond, List, [], ◌∷◌, ◌++◌, append_assoc, Contains, Option, Some, None, refl, sym, ◌∙◌, ap, subst, arith}
 use Rattle.std.proofs.lemmas.Bool.Decides.{nat_tests}
 use Rattle.std.proofs.lemmas.List.Elements.{Contains-append_cases, filter-append}
 use Rattle.std.specs.List.{filter}
@@ -9,20 +8,20 @@ use Rattle.dn_word.specs.declared.packed.gate.Gate.{Gate}
 use Rattle.dn_record.specs.declared.records.Record.{Record}
 use Rattle.dn_model.specs.Regions.{slot_of}
 use Rattle.dn_model.specs.declared.logs.Placed.{Placed}
-use Rattle.dn_model.specs.Held.{Found, Says, is_authority, unmerged, record_at, entry_at, authority_by, led_to}
+use Rattle.dn_model.specs.Held.{Found, Says, unmerged, record_at, entry_at, authority_by, led_to}
 use Rattle.dn_store.specs.State.{StoreState, with_at}
 use Rattle.dn_store.specs.Changes.{sealed}
 use Rattle.dn_store.specs.Holding.{owner_in, waiting, authority_in}
-use Rattle.dn_store.proofs.At.{at_same, at_by}
+use Rattle.dn_store.proofs.At.{at_by}
 use Rattle.dn_owners.specs.Counting.{pending_of, pending_in, pending_from}
 use Rattle.dn_owners.specs.Known.{Knows, Owners}
-use Rattle.dn_owners.specs.Sound.{Rise, IsOrdered, IsLearnt, IsLooking, IsPast, IsPending, IsCounted, IsTold, Agrees, Owns, IsSound}
+use Rattle.dn_owners.specs.Sound.{Rise, IsOrdered, IsLooking, IsPast, IsPending, IsCounted, IsTold, Agrees, Owns, IsSound}
 use Rattle.dn_owners.specs.Events.{Seal, happens}
 use Rattle.dn_owners.specs.Given.{IsSealing}
 use Rattle.dn_owners.specs.Later.{IsRisen}
 use Rattle.dn_owners.proofs.Ats.{at_three, same_some, none_some, none_or_some}
 use Rattle.dn_owners.proofs.Logs.{rise_from}
-use Rattle.dn_owners.proofs.Last.{IsFound, last_found, found_last, found_none, or_before, last_more, entry_more}
+use Rattle.dn_owners.proofs.Last.{found_last, or_before, last_more, entry_more}
 use Rattle.dn_owners.proofs.Grown.{risen_at, exchanged, looking_risen, past_risen}
 use Rattle.dn_owners.proofs.Gates.{bit_stays, stamps_risen, no_stamp}
 use Rattle.dn_owners.proofs.Looks.{not_watched}
@@ -84,7 +83,7 @@ authority_old o n k gate more z e =
     let now : ℕ → List Placed = (sealed s n gate more).logs in
     ap (λ x. authority_by now k x (s.index k)) (sealed_waits o n k gate more z ∙ ap (λ x. or_before x (waiting s (owner_in s k) k)) e)
     ∙ by_index s.logs now k (waiting s (owner_in s k) k) (s.index k)
-      (λ w f. let was = z.sound.leading.leads k w f in record { entry = was.0; was = was.1; is = record_more s.logs n more (ref_of w) was.0 was.1 })
+    (λ w f. let was = z.sound.leading.leads k w f in record { entry = was.0; was = was.1; is = record_more s.logs n more (ref_of w) was.0 was.1 })
 
 -- ---- what is pending then
 pending_append : (xs ys : List Placed) → pending_in (xs ++ ys) ≡ pending_in xs ++ pending_in ys
@@ -161,7 +160,7 @@ sealing_informed o n gate more z g =
               | inl b ↦ (
                   let P : Found (Option Record) → Type 0 = λ x. Agrees x k q in
                   subst P (sym (authority_old o n k gate more z b))
-                    ((h.told n).each k c q (owns_old o n gate more k n g w refl) f e (sym (split ∙ ap (λ x. or_before x (unmerged k c.from (s.logs n))) b) ∙ u)))
+                  ((h.told n).each k c q (owns_old o n gate more k n g w refl) f e (sym (split ∙ ap (λ x. or_before x (unmerged k c.from (s.logs n))) b) ∙ u)))
             ];
       };
     }

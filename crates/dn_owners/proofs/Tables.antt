@@ -1,8 +1,7 @@
-use Rattle.std.proofs.Common.{ℕ, ◌≡◌, ◌⊎◌, inl, inr, Bool, true, false, if◌then◌else◌, List, [], ◌∷◌, ◌++◌, append-nil, Contains, Option, Some, None, refl, sym, ◌∙◌, ap, subst}
-use Rattle.std.proofs.lemmas.Bool.{false≢true, cases_eq}
+use Rattle.std.proofs.Common.{ℕ, ◌≡◌, inl, inr, true, false, List, [], ◌∷◌, ◌++◌, Option, Some, None, refl, sym, ◌∙◌, ap}
+use Rattle.std.proofs.lemmas.Bool.{false≢true}
 use Rattle.dn_word.specs.Ref.{ref_of}
 use Rattle.dn_word.specs.declared.packed.place.Ref.{Ref}
-use Rattle.dn_word.specs.declared.packed.gate.Gate.{Gate}
 use Rattle.dn_word.specs.declared.packed.deed.Deed.{Deed}
 use Rattle.dn_record.specs.Record.{value_of}
 use Rattle.dn_record.specs.declared.records.Record.{Record}
@@ -11,9 +10,8 @@ use Rattle.dn_model.specs.Regions.{slot_of}
 use Rattle.dn_model.specs.OneLog.{is_plain}
 use Rattle.dn_model.specs.declared.logs.Placed.{Placed}
 use Rattle.dn_model.specs.Held.{Found, Says, Astray, is_authority, unmerged, record_at, named, value_in, cell_word}
-use Rattle.dn_store.specs.State.{StoreState, with_at}
-use Rattle.dn_store.specs.Changes.{sealed}
-use Rattle.dn_store.specs.Holding.{owner_in, authority_in, said_by, said_from, holds}
+use Rattle.dn_store.specs.State.{with_at}
+use Rattle.dn_store.specs.Holding.{owner_in, authority_in, said_by, said_from}
 use Rattle.dn_store.proofs.At.{at_same, at_by}
 use Rattle.dn_owners.specs.Known.{Look, Owners}
 use Rattle.dn_owners.specs.Sound.{IsOrdered, IsSound, Agrees}

@@ -11,7 +11,8 @@ use Rattle.dn_owners.specs.Known.{Look, Knows, Watch, Owners, knowing_nothing}
 
 -- Whatever an actor does that concerns owners.
 pub data Event : Type 0 where
-  -- Lanes. Lane n looks at a deed of an epoch that it has learnt, or of one that it learns by this; its call or task ends
+  -- Lanes. Lane n looks at a deed of an epoch that it has learnt, or of one that it learns by this; its call or task
+  -- ends
   Look_known : (n : ℕ) → (l : Look) → Event
   Look_new : (n : ℕ) → (l : Look) → Event
   End : (n : ℕ) → Event

@@ -40,9 +40,11 @@ pub record IsSealing (o : Owners) (n : ℕ) (gate : Gate) (more : List Placed) :
   pub exchange : IsExchange (o.store.gates n) gate n
   pub longer : (o.store.gates n).len ≤ gate.len
   pub rise : Rise (o.store.gates n).len more
-  pub owned : (k : ℕ) (r : Record) → unmerged k 0 more ≡ Some r → (l : Look) × ((o.knows n).look ≡ Some l) × (slot_of k ≡ l.slot)
+  pub owned : (k : ℕ) (r : Record) → unmerged k 0 more ≡ Some r
+      → (l : Look) × ((o.knows n).look ≡ Some l) × (slot_of k ≡ l.slot)
 
--- A stamp of a key is promised: it is at most the floor or the gate of the call that looked at the key's slot; or it was before.
+-- A stamp of a key is promised: it is at most the floor or the gate of the call that looked at the key's slot; or it
+-- was before.
 pub data IsPromise (o : Owners) (n k stamp : ℕ) : Type 0 where
   At_gate : (l : Look) → (o.knows n).look ≡ Some l → slot_of k ≡ l.slot → (o.store.gates n).fenced ≡ false
       → stamp ≤ max l.floor (o.store.gates n).stamp → IsPromise o n k stamp
@@ -115,7 +117,8 @@ IsGiven o (Promise n k stamp) = IsPromise o n k stamp
 IsGiven o (Trim n to) = ((o.knows n).dropped ≤ to) × (to ≤ o.store.marks n)
 IsGiven o (Set n k p place) = IsSetting o n k p place
 IsGiven o (Pass n to p) = IsPassing o n to p
-IsGiven o (Fence n gate) = (gate.fenced ≡ true) × (gate.stamp ≡ (o.store.gates n).stamp) × (gate.len ≡ (o.store.gates n).len)
+IsGiven o (Fence n gate) = (gate.fenced ≡ true) × (gate.stamp ≡ (o.store.gates n).stamp)
+    × (gate.len ≡ (o.store.gates n).len)
 IsGiven o (Leave t d) = IsStep (o.store.deeds t) d Owned Leaving
 IsGiven o (Release t d) = IsStep (o.store.deeds t) d Leaving Released × ((o.knows (o.store.deeds t).lane).look ≡ None)
 IsGiven o (Watches w) = IsWatching o w

@@ -35,8 +35,8 @@ SameAuthority o e k = authority_in (happens o e).store k ≡ authority_in o.stor
 abbrev pub Forgets : Found (Option Record) → Found (Option Record) → ℕ → Type 0
 Forgets old new k = (old ≡ Says (Some (Delete k))) × (new ≡ Says None)
 
--- Records are sealed by the owner of each key that they change, and the last one of a key is its authority then. A merger's mark may
--- forget a Delete. Nothing else moves an authority.
+-- Records are sealed by the owner of each key that they change, and the last one of a key is its authority then. A
+-- merger's mark may forget a Delete. Nothing else moves an authority.
 abbrev pub AuthorityAfter : Owners → Event → ℕ → Type 0
 AuthorityAfter o (Look_known n l) k = SameAuthority o (Look_known n l) k
 AuthorityAfter o (Look_new n l) k = SameAuthority o (Look_new n l) k
@@ -65,9 +65,11 @@ SameHeld o e k = holds (happens o e).store k ≡ holds o.store k
 
 -- what a seal does to it: nothing, or what the last record of the key says, for a put or delete its own value
 pub record IsHeldAfterSeal (o : Owners) (n : ℕ) (gate : Gate) (more : List Placed) (k : ℕ) : Type 0 where
-  pub other : (v : Option (List ℕ)) → unmerged k 0 more ≡ None → holds o.store k ≡ Says v → holds (happens o (Seal n gate more)).store k ≡ Says v
+  pub other : (v : Option (List ℕ)) → unmerged k 0 more ≡ None → holds o.store k ≡ Says v
+      → holds (happens o (Seal n gate more)).store k ≡ Says v
   pub last : (r : Record) → unmerged k 0 more ≡ Some r
-      → holds (happens o (Seal n gate more)).store k ≡ said_by o.store.cells (happens o (Seal n gate more)).store.logs k r
+      → holds (happens o (Seal n gate more)).store k
+      ≡ said_by o.store.cells (happens o (Seal n gate more)).store.logs k r
   pub plain : (r : Record) → unmerged k 0 more ≡ Some r → is_plain r ≡ true
       → holds (happens o (Seal n gate more)).store k ≡ Says (value_of r)
 

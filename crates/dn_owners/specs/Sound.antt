@@ -8,12 +8,12 @@ use Rattle.dn_record.specs.declared.records.Record.TheVariants.{Delete}
 use Rattle.dn_model.specs.Regions.{slot_of}
 use Rattle.dn_model.specs.declared.logs.Placed.{Placed}
 use Rattle.dn_model.specs.Held.{Found, Says, is_authority, unmerged, record_at}
-use Rattle.dn_store.specs.State.{StoreState}
 use Rattle.dn_store.specs.Holding.{authority_in}
 use Rattle.dn_owners.specs.Counting.{pending_from}
 use Rattle.dn_owners.specs.Known.{Look, Learnt, Knows, Watch, Owners}
 
--- What stays true of owners, part by part. A part has for parameters the functions, or the one lane's share of them, that it reads.
+-- What stays true of owners, part by part. A part has for parameters the functions, or the one lane's share of them,
+-- that it reads.
 
 -- ---- what a store that words represent gives: offsets rise up to a log's length
 abbrev pub Rise : ℕ → List Placed → Type 0
@@ -39,7 +39,8 @@ pub record IsIdle (deeds : ℕ → Deed) (gates : ℕ → Gate) : Type 0 where
 
 -- ---- the index leads to an authority record of its key
 pub record IsLeading (logs : ℕ → List Placed) (index : ℕ → Option ℕ) : Type 0 where
-  pub leads : (k w : ℕ) → index k ≡ Some w → (r : Record) × (record_at logs (ref_of w) ≡ Some r) × (is_authority k r ≡ true)
+  pub leads : (k w : ℕ) → index k ≡ Some w
+      → (r : Record) × (record_at logs (ref_of w) ≡ Some r) × (is_authority k r ≡ true)
 
 -- ---- what a look has shown: while the gate has no bit, the deed is as it was found, or Leaving
 abbrev pub IsLive : Deed → Type 0
@@ -90,9 +91,11 @@ abbrev pub Agrees : Found (Option Record) → ℕ → Record → Type 0
 Agrees found k r = (found ≡ Says (Some r)) ⊎ ((found ≡ Says None) × (r ≡ Delete k))
 
 -- the last one since the epoch of now was learnt is the key's authority
-pub record IsTold (log : List Placed) (gate : Gate) (deeds : ℕ → Deed) (authority : ℕ → Found (Option Record)) (n : ℕ) (v : Knows) : Type 0 where
-  pub each : (k : ℕ) (c : Learnt) (r : Record) → Owns v.running gate (deeds (slot_of k)) n → v.learnt (slot_of k) ≡ Some c
-      → c.epoch ≡ (deeds (slot_of k)).epoch → unmerged k c.from log ≡ Some r → Agrees (authority k) k r
+pub record IsTold (log : List Placed) (gate : Gate) (deeds : ℕ → Deed) (authority : ℕ → Found (Option Record))
+    (n : ℕ) (v : Knows) : Type 0 where
+  pub each : (k : ℕ) (c : Learnt) (r : Record) → Owns v.running gate (deeds (slot_of k)) n
+      → v.learnt (slot_of k) ≡ Some c → c.epoch ≡ (deeds (slot_of k)).epoch → unmerged k c.from log ≡ Some r
+      → Agrees (authority k) k r
 
 -- ---- what was promised: the floor of the key's slot, or the gate of its lane, has at least that stamp
 abbrev pub bound_by : (ℕ → Deed) → (ℕ → Gate) → ℕ → ℕ
@@ -101,11 +104,14 @@ bound_by deeds gates k = max (deeds (slot_of k)).floor (gates (deeds (slot_of k)
 pub record AreStamps (deeds : ℕ → Deed) (gates : ℕ → Gate) (promised : ℕ → ℕ) : Type 0 where
   pub each : (k : ℕ) → promised k ≤ bound_by deeds gates k
 
--- ---- a monitor past Released or the bit: that lane seals no authority record of the slot and promises nothing of it any more
-pub record IsWatched (logs : ℕ → List Placed) (gates : ℕ → Gate) (deeds : ℕ → Deed) (promised : ℕ → ℕ) (w : Watch) : Type 0 where
+-- ---- a monitor past Released or the bit: that lane seals no authority record of the slot and promises nothing of it
+-- any more
+pub record IsWatched (logs : ℕ → List Placed) (gates : ℕ → Gate) (deeds : ℕ → Deed) (promised : ℕ → ℕ)
+    (w : Watch) : Type 0 where
   pub past : ((deeds w.slot).state ≡ Released) ⊎ ((gates w.lane).fenced ≡ true)
   pub names : (deeds w.slot).lane ≡ w.lane
-  pub ended : (k : ℕ) (p : Placed) → Contains (logs w.lane) p → is_authority k p.entry ≡ true → slot_of k ≡ w.slot → p.offset < w.len
+  pub ended : (k : ℕ) (p : Placed) → Contains (logs w.lane) p → is_authority k p.entry ≡ true
+      → slot_of k ≡ w.slot → p.offset < w.len
   pub stamps : (k : ℕ) → slot_of k ≡ w.slot → promised k ≤ max (deeds w.slot).floor w.stamp
 
 -- ---- all of them

@@ -1,5 +1,5 @@
-//! What is so of owners, as functions without work: what each says is its contract. The order of a log's offsets is given by the words
-//! that represent the store.
+//! What is so of owners, as functions without work: what each says is its contract. The order of a log's offsets is
+//! given by the words that represent the store.
 
 ghost use Rattle.std.specs.Prelude.{◌≡◌, ℕ, false, List, Option, Some, None};
 ghost use Rattle.dn_record.specs.declared.records.Record.{Record};
@@ -35,8 +35,8 @@ pub fn events()
     ensures later { (o : Owners) (e : Event) → IsGiven o e → IsLater o (happens o e) }
 {}
 
-/// What an event does to the authority of a key and to what is held there; and that of a key of a slot at which a lane has looked,
-/// while that lane has no bit and seals nothing, the record that is its authority stays that, or is a forgotten Delete.
+/// What an event does to the authority of a key and to what is held there. Of a key whose slot a lane has looked at,
+/// while that lane has no bit and seals nothing, the record that is the authority stays that, or is a forgotten Delete.
 pub fn keys()
     ensures authority { (o : Owners) (e : Event) (k : ℕ)
         → IsOrdered o.store.logs o.store.gates o.store.marks
@@ -46,15 +46,16 @@ pub fn keys()
         → IsSound o → IsGiven o e → HeldAfter o e k }
     ensures located { (o : Owners) (e : Event) (n k : ℕ) (l : Look) (r : Record)
         → IsOrdered o.store.logs o.store.gates o.store.marks → IsSound o → IsGiven o e
-        → (o.knows n).look ≡ Some l → slot_of k ≡ l.slot → (o.store.gates n).fenced ≡ false
+        → (o.knows n).look ≡ Some l → slot_of k ≡ l.slot
+        → (o.store.gates n).fenced ≡ false
         → (happens o e).store.logs n ≡ o.store.logs n
         → Agrees (authority_in o.store k) k r
         → Agrees (authority_in (happens o e).store k) k r }
 {}
 
-/// What the pending records of a lane tell of a key of a slot that it owns in the epoch that it has learnt: the last one that counts is
-/// the key's authority, or a Delete of a key without one; and where none counts, no log has a record of the key that isn't merged, and
-/// its authority is what the index gives.
+/// What the pending records of a lane tell of a key of a slot that it owns in the epoch that it has learnt: the last
+/// one that counts is the key's authority, or a Delete of a key without one; and where none counts, no log has a record
+/// of the key that isn't merged, and its authority is what the index gives.
 pub fn pending()
     ensures some { (o : Owners) (n k : ℕ) (c : Learnt) (q : Pending)
         → IsOrdered o.store.logs o.store.gates o.store.marks → IsSound o
@@ -72,8 +73,9 @@ pub fn pending()
         → authority_in s k ≡ indexed s.logs k (s.index k) }
 {}
 
-/// Who merges a key. Of the lanes whose logs have an unmerged record of a key of one chain, or of one slot, there is one; while it has
-/// one of a key, the index changes at that key by its merger alone; and at a key without such a record it doesn't change.
+/// Who merges a key. Of the lanes whose logs have an unmerged record of a key of one chain, or of one slot, there is
+/// one; while it has one of a key, the index changes at that key by its merger alone; and at a key without such a
+/// record it doesn't change.
 pub fn merging()
     ensures slot { (o : Owners) (n m k q : ℕ) (p r : Placed) → IsSound o
         → IsWaiting o n k p → IsWaiting o m q r → slot_of k ≡ slot_of q → n ≡ m }

@@ -23,8 +23,9 @@ fn later(one: Pending, key: u64, learnt_at: u64, before: Option<Pending>) -> Opt
     }
 }
 
-/// The last pending record of a key that counts for its slot: one at or past the length, in words, that the lane's log had when the lane
-/// learnt the slot's epoch. An earlier one was sealed before the slot went to another lane and came back, so it says nothing of now.
+/// The last pending record of a key that counts for its slot: one at or past the length, in words, that the lane's log
+/// had when the lane learnt the slot's epoch. An earlier one was sealed before the slot went to another lane and came
+/// back, so it says nothing of now.
 pub fn last_counting(pending: &[Pending], key: u64, learnt_at: u64) -> Option<Pending>
     ensures last { result ≡ last_counting_of key learnt_at pending.now }
 {

@@ -7,8 +7,8 @@ fn sealed(key: u64, offset: u64) -> Pending {
 
 #[test]
 fn records_that_count(rt: HostRuntime) -> Result<(), Fail> {
-    // The lane sealed key 5 twice, lost its slot, got it back at length 9 and sealed key 100; then it lost it again, got it back at
-    // length 15 and sealed key 5.
+    // The lane sealed key 5 twice, lost its slot, got it back at length 9 and sealed two keys; then it lost it again,
+    // got it back at length 15 and sealed key 5.
     let first = [sealed(5, 0), sealed(100, 3), sealed(5, 6)];
     let back = [sealed(5, 0), sealed(100, 3), sealed(5, 6), sealed(100, 9)];
     let again = [
