@@ -66,7 +66,6 @@ record IsJoin (words now : List ℕ) (chains : ℕ → List ℕ) (s : StoreState
   pos : 0 < k
   l : IsLinking words chains s.index s.takers k last new
   st : IsStored words now (bucket_at last 7) new
-  low : last < 8192
 
 -- all words but the last bucket's next word stay
 word_stays : (words now : List ℕ) (chains : ℕ → List ℕ) (s : StoreState) (k last new : ℕ) → IsJoin words now chains s k last new → (b i : ℕ) → i < 7 → bucket now b i ≡ bucket words b i
@@ -179,6 +178,6 @@ link words chains s k last new h pos l =
     let now : List ℕ = slice_set words (bucket_at last 7) new in
     let low = h.indexed.below (home_of k) last (home_below k) l.has in
     let st = bucket_stored words chains s last 7 new h low (omega arith) in
-    let j : IsJoin words now chains s k last new = record { h = h; pos = pos; l = l; st = st; low = low } in
+    let j : IsJoin words now chains s k last new = record { h = h; pos = pos; l = l; st = st } in
     bucket_word words now chains (with_bucket chains (home_of k) new) s last 7 new (with_at s.index k (Some (bucket words new 4))) (with_at s.takers new 0) h low (omega arith) st
     (joined_chain words now chains s k last new j) (joined_index words now chains s k last new j) (joined_overflow words now chains s k last new j)
