@@ -1,0 +1,15 @@
+pub mod Ats
+pub mod Logs
+pub mod Last
+pub mod Moves
+pub mod Grown
+pub mod Gates
+pub mod Deeds
+pub mod Looks
+pub mod Seals
+pub mod Marks
+pub mod Sets
+pub mod Grants
+pub mod Tables
+pub mod Merging
+pub mod Counting
