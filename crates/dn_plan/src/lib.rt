@@ -17,5 +17,5 @@ pub use phases::{
 };
 pub use results::{After, Effect, Ending, Next, Step, Then};
 
-
-
+#[cfg(test)]
+mod tests;

@@ -71,7 +71,10 @@ pub enum ActPhase {
     /// Loads the deed of the key's slot: the call's look.
     Look,
     /// Loads the gate. The look said that the lane owns the slot, with this floor.
-    Gate { floor: u32, located: Located },
+    Gate {
+        floor: u32,
+        located: Located,
+    },
     /// A get exchanges the gate that it loaded for one with the stamp of `to`.
     Raise {
         located: Located,

@@ -2,7 +2,7 @@ use crate::phases::{ActPhase, LocatePhase, Located, RoomPhase, SealPhase};
 use dn_word::{Position, Ref};
 
 /// How a call's plan ends.
-#[derive(Clone, Copy)]
+#[derive(Clone, Copy, Debug, PartialEq, Eq)]
 pub enum Ending {
     /// The call stands in the history at `to`. A put or delete has sealed its record at `at`.
     Made {
@@ -11,17 +11,26 @@ pub enum Ending {
         located: Located,
     },
     /// The lane doesn't own the key's slot by the look, the deed that this call loaded.
-    NotOwner { look: u64 },
+    NotOwner {
+        look: u64,
+    },
     /// A gate word that this call read has the bit of a fence, or the gate isn't the one that it loaded.
-    Fenced { gate: u64 },
+    Fenced {
+        gate: u64,
+    },
     /// There is no room for the record, as [`Room::Full`](crate::Room::Full) says.
-    Full { counter: u64, segments: u32 },
+    Full {
+        counter: u64,
+        segments: u32,
+    },
     /// A stamp behind the last one is needed, which is `stamp`.
-    Worn { stamp: u32 },
+    Worn {
+        stamp: u32,
+    },
 }
 
 /// What a lane comes to know by a step of a plan.
-#[derive(Clone, Copy)]
+#[derive(Clone, Copy, Debug, PartialEq, Eq)]
 pub enum Effect {
     /// The slot's deed is in this epoch. Where the lane knew another one, records of the slot that it sealed before are
     /// no longer looked for among the pending ones.
