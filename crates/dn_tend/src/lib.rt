@@ -12,6 +12,9 @@ mod plans;
 mod tasks;
 mod waits;
 
-pub use phases::{TendAct, TendAfter, TendAsk, TendLocate, TendNext, TendRoom, TendSealing, TendThen};
+pub use phases::{
+    Share, TendAct, TendAfter, TendLocate, TendNext, TendRoom, TendSealing, TendThen, TendTurn,
+    Unshare,
+};
 pub use plans::TendPlan;
 pub use tasks::{Task, TaskAnswer, TendFound, TendSeal, TendStep};

@@ -22,13 +22,20 @@ pub struct Unshare {
 #[derive(Clone, Copy)]
 pub enum TendAct {
     /// A release loads the deed of its slot.
-    Deed { slot: u8 },
+    Deed {
+        slot: u8,
+    },
     /// It exchanges the deed, which asks the lane to leave, for one that says Released.
-    GiveUp { slot: u8, deed: u64 },
+    GiveUp {
+        slot: u8,
+        deed: u64,
+    },
     /// A trim loads the lane's merged mark.
     Mark,
     /// Loads the deed of the key's slot, to share the key.
-    ShareLook { key: u64 },
+    ShareLook {
+        key: u64,
+    },
     /// Loads the gate. The key's value stands at `at`.
     ShareGate {
         key: u64,
@@ -36,19 +43,36 @@ pub enum TendAct {
         at: Option<Ref>,
     },
     /// Loads the counter of claimed cells.
-    Count { share: Share },
+    Count {
+        share: Share,
+    },
     /// Claims the next cell: adds 1 to the counter.
-    Claim { share: Share },
+    Claim {
+        share: Share,
+    },
     /// Stores the key in the cell's key word.
-    Name { share: Share, cell: u8 },
+    Name {
+        share: Share,
+        cell: u8,
+    },
     /// Exchanges the cell from 0 to its opening word, once the Share is sealed.
-    Open { cell: u8, opening: u64 },
+    Open {
+        cell: u8,
+        opening: u64,
+    },
     /// Loads the deed of the key's slot, to end its sharing.
-    UnshareLook { key: u64 },
+    UnshareLook {
+        key: u64,
+    },
     /// Loads the gate.
-    UnshareGate { unshare: Unshare },
+    UnshareGate {
+        unshare: Unshare,
+    },
     /// Loads the cell.
-    Cell { unshare: Unshare, gate: u64 },
+    Cell {
+        unshare: Unshare,
+        gate: u64,
+    },
     /// Exchanges the cell, which held `seen`, for the closed one. The record is to be sealed at `stamp`.
     Close {
         unshare: Unshare,
@@ -85,4 +109,33 @@ pub enum TendSealing {
         stamp: u32,
         gate: u64,
     },
+}
+
+/// What comes once there is room, or once the task needs none.
+#[derive(Clone, Copy)]
+pub enum TendThen {
+    Act(TendAct),
+    Seal(TendSealing),
+    Done(TaskAnswer),
+}
+
+/// What comes once the key is located.
+#[derive(Clone, Copy)]
+pub enum TendAfter {
+    Room(TendRoom),
+    Then(TendThen),
+}
+
+/// What a task waits for, or its answer.
+#[derive(Clone, Copy)]
+pub enum TendNext {
+    Locate(TendLocate),
+    After(TendAfter),
+}
+
+/// What comes after the word of an action: the lane takes over the effect, and then the task goes on.
+#[derive(Clone, Copy)]
+pub struct TendTurn {
+    pub effect: Option<Effect>,
+    pub next: TendNext,
 }

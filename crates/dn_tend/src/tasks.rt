@@ -74,7 +74,11 @@ pub enum TendFound {
 #[derive(Clone, Copy, Debug, PartialEq, Eq)]
 pub enum TendSeal {
     /// A Share of the task's key, at the stamp of `opening`.
-    Share { cell: u8, opening: u64, gate: u64 },
+    Share {
+        cell: u8,
+        opening: u64,
+        gate: u64,
+    },
     /// An Unshare of the task's key, which names the record that the cell named, at `stamp`.
     Unshare {
         at: Option<Ref>,

@@ -1,0 +1,5 @@
+pub mod Tend
+pub mod Fit
+pub mod Rank
+pub mod Causes
+pub mod Plan
