@@ -97,17 +97,3 @@ sealed_after (after.Then to) = sealed_then to
 abbrev pub sealed_next : TendNext → TendNext
 sealed_next (next.Locate phase) = next.Locate phase
 sealed_next (next.After to) = sealed_after to
-
--- what holds of the action whose word a task waits for
-abbrev pub AtThen : (TendAct → Type 0) → TendThen → Type 0
-AtThen P (thence.Act phase) = P phase
-AtThen P (thence.Seal phase) = ⊥
-AtThen P (thence.Done answer) = ⊥
-
-abbrev pub AtAfter : (TendAct → Type 0) → TendAfter → Type 0
-AtAfter P (after.Room phase) = ⊥
-AtAfter P (after.Then to) = AtThen P to
-
-abbrev pub AtAct : (TendAct → Type 0) → TendNext → Type 0
-AtAct P (next.Locate phase) = ⊥
-AtAct P (next.After to) = AtAfter P to

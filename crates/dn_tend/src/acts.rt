@@ -363,6 +363,23 @@ impl TendAct {
         ensures falls { rank_next result.next < rank_act self }
         ensures records { records_next result.next ≤ records_act self }
         ensures room { has_room_next result.next ≡ true → has_room_act self ≡ true }
+        ensures released { (result.next ≡ ends TaskAnswer.Released) ↔ IsReleased word self }
+        ensures not_leaving { (look : ℕ) →
+            (result.next ≡ ends (TaskAnswer.NotLeaving look)) ↔ IsNotLeaving lane look word self }
+        ensures trimmed { (mark : ℕ) →
+            (result.next ≡ ends (TaskAnswer.Trimmed mark)) ↔ IsTrimmed mark word self }
+        ensures shared { (cell : ℕ) →
+            (result.next ≡ ends (TaskAnswer.Shared cell)) ↔ IsShared cell word self }
+        ensures not_owner { (look : ℕ) →
+            (result.next ≡ ends (TaskAnswer.NotOwner look)) ↔ IsNotOwner lane look word self }
+        ensures fenced { (told : ℕ) →
+            (result.next ≡ ends (TaskAnswer.Fenced told)) ↔ IsFenced told word self }
+        ensures again { (old seen : ℕ) →
+            (result.next ≡ ends (TaskAnswer.Again old seen)) ↔ IsAgain old seen word self }
+        ensures no_cell { (counter : ℕ) →
+            (result.next ≡ ends (TaskAnswer.NoCell counter)) ↔ HasNoCell counter word self }
+        ensures worn { (stamp : ℕ) →
+            (result.next ≡ ends (TaskAnswer.Worn stamp)) ↔ IsWorn stamp word self }
     {
         match self {
             TendAct::Deed { slot } => after_deed(lane, slot, word),

@@ -18,3 +18,6 @@ pub use phases::{
 };
 pub use plans::TendPlan;
 pub use tasks::{Task, TaskAnswer, TendFound, TendSeal, TendStep};
+
+#[cfg(test)]
+mod tests;

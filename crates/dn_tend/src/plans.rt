@@ -1,15 +1,12 @@
-ghost use Rattle.std.specs.Prelude.{◌≡◌, ◌≢◌, ◌<◌, ◌≤◌, ◌↔◌, ℕ, true, false};
+ghost use Rattle.std.specs.Prelude.{◌≡◌};
 ghost use Rattle.dn_word.specs.Regions.{IsLane};
-ghost use Rattle.dn_tend.specs.Tend.{ends};
-ghost use Rattle.dn_tend.specs.Fit.{FitsTask, FitsFound, FitsNext, FitsTurn};
-ghost use Rattle.dn_tend.specs.Rank.{rank_next, records_next, has_room_next};
-ghost use Rattle.dn_tend.specs.Plan.{begun, begun_in, step_of, turn_of, located_next, roomed_next, sealed_next, AtAct};
-ghost use Rattle.dn_tend.specs.Causes.{IsReleased, IsNotLeaving, IsTrimmed, IsShared, IsNotOwner, IsFenced, IsAgain, HasNoCell, IsWorn};
+ghost use Rattle.dn_tend.specs.Fit.{FitsTask, FitsFound, FitsNext};
+ghost use Rattle.dn_tend.specs.Plan.{begun, begun_in, step_of, turn_of, located_next, roomed_next, sealed_next};
+ghost use Rattle.dn_tend.specs.Program.{CarriesOut};
+ghost use Rattle.dn_tend.specs.Sequence.{task_plan};
 
-use crate::phases::{
-    TendAct, TendAfter, TendLocate, TendNext, TendRoom, TendSealing, TendThen, Unshare,
-};
-use crate::tasks::{Task, TaskAnswer, TendFound, TendSeal, TendStep};
+use crate::phases::{TendAct, TendAfter, TendNext, TendThen};
+use crate::tasks::{Task, TendFound, TendStep};
 use dn_plan::Effect;
 use std::marker::Model;
 
@@ -53,6 +50,7 @@ impl TendPlan {
         requires task { FitsTask task }
         requires lane { IsLane lane }
         ensures value { result ≡ begun lane task }
+        ensures sequence { CarriesOut result (task_plan lane task) }
     {
         TendPlan {
             lane,
