@@ -1,8 +1,12 @@
-use Rattle.std.specs.Prelude.{◌≢◌, ◌^◌, ◌<◌, Option, Some, None}
+use Rattle.std.specs.Prelude.{◌≡◌, ◌≢◌, ◌^◌, ◌<◌, true, false, Option, Some, None}
+use Rattle.dn_word.specs.Gate.{gate_of}
+use Rattle.dn_word.specs.Need.{raised_of}
 use Rattle.dn_word.specs.Regions.{IsLane}
 use Rattle.dn_plan.specs.declared.phases.Kind.{Kind}
 use Rattle.dn_plan.specs.declared.phases.Kind.TheVariants as kind
 use Rattle.dn_plan.specs.declared.phases.Brief.{Brief}
+use Rattle.dn_plan.specs.Plan.{is_owner, need_of}
+use Rattle.dn_plan.specs.declared.phases.Raised.{Raised}
 use Rattle.dn_plan.specs.declared.phases.ActPhase.{ActPhase}
 use Rattle.dn_plan.specs.declared.phases.ActPhase.TheVariants as at
 use Rattle.dn_plan.specs.declared.phases.LocatePhase.{LocatePhase}
@@ -42,19 +46,26 @@ IsRead kind.Get = Unit {0}
 IsRead kind.Put = ⊥
 IsRead kind.Delete = ⊥
 
+-- the look says that the lane is owner, the gate is open, and the position is the one that the rule gives by both
+pub record FitsRaised (b : Brief) (r : Raised) : Type 0 where
+  pub owner : is_owner b.lane r.look ≡ true
+  pub free : (gate_of r.gate).fenced ≡ false
+  pub rule : raised_of (need_of b r.look) (gate_of r.gate).stamp ≡ Some r.to
+  pub stamp : r.to.stamp < 2 ^ 31
+
 abbrev pub FitsAct : Brief → ActPhase → Type 0
 FitsAct b at.Look = Unit {0}
-FitsAct b (at.Gate floor located) = floor < 2 ^ 31
-FitsAct b (at.Raise located gate to) = (to.stamp < 2 ^ 31) × IsRead b.kind
+FitsAct b (at.Gate look located) = is_owner b.lane look ≡ true
+FitsAct b (at.Raise r) = FitsRaised b r × IsRead b.kind
 
-abbrev pub FitsLocate : LocatePhase → Type 0
-FitsLocate (locate.Owner floor) = floor < 2 ^ 31
+abbrev pub FitsLocate : Brief → LocatePhase → Type 0
+FitsLocate b (locate.Owner look) = is_owner b.lane look ≡ true
 
 abbrev pub FitsRoom : Brief → RoomPhase → Type 0
-FitsRoom b (find.Write located gate to) = (to.stamp < 2 ^ 31) × IsWrite b.kind
+FitsRoom b (find.Write r) = FitsRaised b r × IsWrite b.kind
 
 abbrev pub FitsSeal : Brief → SealPhase → Type 0
-FitsSeal b (seal.Write located gate to) = (to.stamp < 2 ^ 31) × IsWrite b.kind
+FitsSeal b (seal.Write r) = FitsRaised b r × IsWrite b.kind
 
 -- a call is made with a record exactly where it is a put or delete
 abbrev pub FitsEnding : Kind → Ending → Type 0
@@ -81,7 +92,7 @@ FitsAfter b (after.Room phase) = FitsRoom b phase
 FitsAfter b (after.Then to) = FitsThen b to
 
 abbrev pub FitsNext : Brief → Next → Type 0
-FitsNext b (next.Locate phase) = FitsLocate phase
+FitsNext b (next.Locate phase) = FitsLocate b phase
 FitsNext b (next.After to) = FitsAfter b to
 
 pub record FitsStep (b : Brief) (step : Step) : Type 0 where

@@ -18,6 +18,7 @@ use Rattle.dn_plan.specs.declared.phases.Room.{Room}
 use Rattle.dn_plan.specs.declared.phases.Room.TheVariants as room
 use Rattle.dn_plan.specs.declared.phases.Entry.TheVariants as entry
 use Rattle.dn_plan.specs.declared.phases.Sealing.{Sealing}
+use Rattle.dn_plan.specs.declared.phases.Raised.{Raised}
 use Rattle.dn_plan.specs.declared.phases.ActPhase.{ActPhase}
 use Rattle.dn_plan.specs.declared.phases.ActPhase.TheVariants as at
 use Rattle.dn_plan.specs.declared.phases.LocatePhase.{LocatePhase}
@@ -47,11 +48,11 @@ sealing_word stamp len = gate_word (record { fenced = false; stamp = stamp; len 
 -- a get that raises the stamp leaves the length as it loaded it
 abbrev pub action_of : Brief → ActPhase → Action
 action_of b at.Look = Load (deed_at (slot_of b.key))
-action_of b (at.Gate floor located) = Load (gate_at b.lane)
-action_of b (at.Raise located gate to) = Cas (gate_at b.lane) gate (sealing_word to.stamp (gate_of gate).len)
+action_of b (at.Gate look located) = Load (gate_at b.lane)
+action_of b (at.Raise r) = Cas (gate_at b.lane) r.gate (sealing_word r.to.stamp (gate_of r.gate).len)
 
 abbrev pub sealing_of : SealPhase → Sealing
-sealing_of (seal.Write located gate to) = record { entry = entry.Own; gate = gate; stamp = to.stamp }
+sealing_of (seal.Write r) = record { entry = entry.Own; gate = r.gate; stamp = r.to.stamp }
 
 -- ---- the forms of what comes next
 abbrev pub acts : ActPhase → Next
@@ -86,39 +87,42 @@ is_owner lane deed = is_owned (deed_of deed).state && ((deed_of deed).lane == la
 abbrev pub looked : Brief → ℕ → Step
 looked b deed =
     learns (Epoch (slot_of b.key) (deed_of deed).epoch)
-    (if is_owner b.lane deed then next.Locate (locate.Owner (deed_of deed).floor) else ends (NotOwner deed))
+    (if is_owner b.lane deed then next.Locate (locate.Owner deed) else ends (NotOwner deed))
 
 -- ---- the gate
 -- the floor is the look's, the last position the session's
 abbrev pub need_of : Brief → ℕ → Need
-need_of b floor = record { floor = floor; last = b.view.last; session = b.view.session }
+need_of b look = record { floor = (deed_of look).floor; last = b.view.last; session = b.view.session }
 
-abbrev pub raises : Located → ℕ → Option Position → After
-raises located gate (Some to) = after.Then (thence.Act (at.Raise located gate to))
-raises located gate None = after.Then (thence.End (Worn (2 ^ 31 - 1)))
+abbrev pub raised_at : ℕ → Located → ℕ → Position → Raised
+raised_at look located gate to = record { look = look; located = located; gate = gate; to = to }
+
+abbrev pub raises : ℕ → Located → ℕ → Option Position → After
+raises look located gate (Some to) = after.Then (thence.Act (at.Raise (raised_at look located gate to)))
+raises look located gate None = after.Then (thence.End (Worn (2 ^ 31 - 1)))
 
 -- a get is quiet where it may be, and else raises the stamp
-abbrev pub reads : Located → ℕ → Option Position → Option Position → After
-reads located gate (Some to) raised = after.Then (thence.End (Made to None located))
-reads located gate None raised = raises located gate raised
+abbrev pub reads : ℕ → Located → ℕ → Option Position → Option Position → After
+reads look located gate (Some to) raised = after.Then (thence.End (Made to None located))
+reads look located gate None raised = raises look located gate raised
 
 -- a put or delete needs room at a raised stamp
-abbrev pub writes : Located → ℕ → Option Position → After
-writes located gate (Some to) = after.Room (find.Write located gate to)
-writes located gate None = after.Then (thence.End (Worn (2 ^ 31 - 1)))
+abbrev pub writes : ℕ → Located → ℕ → Option Position → After
+writes look located gate (Some to) = after.Room (find.Write (raised_at look located gate to))
+writes look located gate None = after.Then (thence.End (Worn (2 ^ 31 - 1)))
 
 abbrev pub opened : Brief → ℕ → Located → ℕ → Kind → After
-opened b floor located gate kind.Get =
-    reads located gate (quiet_of (need_of b floor) (gate_of gate).stamp) (raised_of (need_of b floor) (gate_of gate).stamp)
-opened b floor located gate kind.Put = writes located gate (raised_of (need_of b floor) (gate_of gate).stamp)
-opened b floor located gate kind.Delete = writes located gate (raised_of (need_of b floor) (gate_of gate).stamp)
+opened b look located gate kind.Get =
+    reads look located gate (quiet_of (need_of b look) (gate_of gate).stamp) (raised_of (need_of b look) (gate_of gate).stamp)
+opened b look located gate kind.Put = writes look located gate (raised_of (need_of b look) (gate_of gate).stamp)
+opened b look located gate kind.Delete = writes look located gate (raised_of (need_of b look) (gate_of gate).stamp)
 
 -- the gate is closed to the lane, for this call and later ones
 abbrev pub barred : ℕ → Step
 barred gate = learns (Bar gate) (ends (Fenced gate))
 
 abbrev pub gated : Brief → ℕ → Located → ℕ → Step
-gated b floor located gate = if (gate_of gate).fenced then barred gate else goes (next.After (opened b floor located gate b.kind))
+gated b look located gate = if (gate_of gate).fenced then barred gate else goes (next.After (opened b look located gate b.kind))
 
 -- ---- an exchange of the gate, where it found this word
 abbrev pub exchanged : ℕ → ℕ → Ending → Step
@@ -127,15 +131,15 @@ exchanged gate found ending = if found == gate then goes (ends ending) else barr
 -- ---- what comes after each wait
 abbrev pub taken_of : Brief → ActPhase → ℕ → Step
 taken_of b at.Look word = looked b word
-taken_of b (at.Gate floor located) word = gated b floor located word
-taken_of b (at.Raise located gate to) word = exchanged gate word (Made to None located)
+taken_of b (at.Gate look located) word = gated b look located word
+taken_of b (at.Raise r) word = exchanged r.gate word (Made r.to None r.located)
 
 abbrev pub located_of : LocatePhase → Located → After
-located_of (locate.Owner floor) located = after.Then (thence.Act (at.Gate floor located))
+located_of (locate.Owner look) located = after.Then (thence.Act (at.Gate look located))
 
 abbrev pub roomed_of : RoomPhase → Room → Then
-roomed_of (find.Write located gate to) room.Found = thence.Seal (seal.Write located gate to)
-roomed_of (find.Write located gate to) (room.Full counter segments) = thence.End (Full counter segments)
+roomed_of (find.Write r) room.Found = thence.Seal (seal.Write r)
+roomed_of (find.Write r) (room.Full counter segments) = thence.End (Full counter segments)
 
 abbrev pub sealed_of : SealPhase → Ref → ℕ → Step
-sealed_of (seal.Write located gate to) place word = exchanged gate word (Made to (Some place) located)
+sealed_of (seal.Write r) place word = exchanged r.gate word (Made r.to (Some place) r.located)

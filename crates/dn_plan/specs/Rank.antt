@@ -17,17 +17,17 @@ use Rattle.dn_plan.specs.declared.results.Next.TheVariants as next
 -- Each step leads to a lower rank, so that a plan ends after so many waits.
 abbrev pub rank_act : ActPhase → ℕ
 rank_act at.Look = 5
-rank_act (at.Gate floor located) = 3
-rank_act (at.Raise located gate to) = 1
+rank_act (at.Gate look located) = 3
+rank_act (at.Raise r) = 1
 
 abbrev pub rank_locate : LocatePhase → ℕ
-rank_locate (locate.Owner floor) = 4
+rank_locate (locate.Owner look) = 4
 
 abbrev pub rank_room : RoomPhase → ℕ
-rank_room (find.Write located gate to) = 2
+rank_room (find.Write r) = 2
 
 abbrev pub rank_seal : SealPhase → ℕ
-rank_seal (seal.Write located gate to) = 1
+rank_seal (seal.Write r) = 1
 
 abbrev pub rank_then : Then → ℕ
 rank_then (thence.Act phase) = rank_act phase
@@ -45,17 +45,17 @@ rank_next (next.After to) = rank_after to
 -- How many records a plan may still seal. Words wait for one only in the phase that has it sealed.
 abbrev pub records_act : ActPhase → ℕ
 records_act at.Look = 1
-records_act (at.Gate floor located) = 1
-records_act (at.Raise located gate to) = 0
+records_act (at.Gate look located) = 1
+records_act (at.Raise r) = 0
 
 abbrev pub records_locate : LocatePhase → ℕ
-records_locate (locate.Owner floor) = 1
+records_locate (locate.Owner look) = 1
 
 abbrev pub records_room : RoomPhase → ℕ
-records_room (find.Write located gate to) = 1
+records_room (find.Write r) = 1
 
 abbrev pub records_seal : SealPhase → ℕ
-records_seal (seal.Write located gate to) = 1
+records_seal (seal.Write r) = 1
 
 abbrev pub records_then : Then → ℕ
 records_then (thence.Act phase) = records_act phase
@@ -74,8 +74,8 @@ records_next (next.After to) = records_after to
 -- wasn't to one where it was, and a record is sealed only there.
 abbrev pub has_room_act : ActPhase → Bool
 has_room_act at.Look = false
-has_room_act (at.Gate floor located) = false
-has_room_act (at.Raise located gate to) = false
+has_room_act (at.Gate look located) = false
+has_room_act (at.Raise r) = false
 
 abbrev pub has_room_then : Then → Bool
 has_room_then (thence.Act phase) = has_room_act phase

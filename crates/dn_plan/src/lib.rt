@@ -13,7 +13,8 @@ mod results;
 mod steps;
 
 pub use phases::{
-    ActPhase, Brief, Entry, Kind, LocatePhase, Located, Room, RoomPhase, SealPhase, Sealing, Way,
+    ActPhase, Brief, Entry, Kind, LocatePhase, Located, Raised, Room, RoomPhase, SealPhase,
+    Sealing, Way,
 };
 pub use results::{After, Effect, Ending, Next, Step, Then};
 

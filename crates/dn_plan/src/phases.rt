@@ -65,49 +65,46 @@ pub struct Sealing {
     pub stamp: u32,
 }
 
-/// Waits for the word that an action of the plan finds.
+/// What a call knows that loaded its gate and is to stand at a raised stamp.
+#[derive(Clone, Copy)]
+pub struct Raised {
+    /// The deed that it loaded, by which its lane owns the key's slot.
+    pub look: u64,
+    pub located: Located,
+    /// The gate word that it loaded, without the bit of a fence.
+    pub gate: u64,
+    /// Where it is to stand: by the position rule, behind the gate's stamp, the look's floor and the session's last position.
+    pub to: Position,
+}
+
+/// Waits for the word that an action of the plan finds. `look` is the deed that the call loaded.
 #[derive(Clone, Copy)]
 pub enum ActPhase {
     /// Loads the deed of the key's slot: the call's look.
     Look,
-    /// Loads the gate. The look said that the lane owns the slot, with this floor.
-    Gate {
-        floor: u32,
-        located: Located,
-    },
-    /// A get exchanges the gate that it loaded for one with the stamp of `to`.
-    Raise {
-        located: Located,
-        gate: u64,
-        to: Position,
-    },
+    /// Loads the gate.
+    Gate { look: u64, located: Located },
+    /// A get exchanges the gate that it loaded for one with the raised stamp.
+    Raise { raised: Raised },
 }
 
-/// Waits for the place of the key's record.
+/// Waits for the place of the key's record. `look` is the deed that the call loaded.
 #[derive(Clone, Copy)]
 pub enum LocatePhase {
-    /// A call of the slot's owner. `floor` is the one in its look.
-    Owner { floor: u32 },
+    /// A call of the slot's owner.
+    Owner { look: u64 },
 }
 
 /// Waits for room for a record.
 #[derive(Clone, Copy)]
 pub enum RoomPhase {
-    /// The record of a put or delete, which loaded this gate and is to stand at `to`.
-    Write {
-        located: Located,
-        gate: u64,
-        to: Position,
-    },
+    /// The record of a put or delete.
+    Write { raised: Raised },
 }
 
 /// Waits for a record to be sealed: its words flow, and then the gate is exchanged.
 #[derive(Clone, Copy)]
 pub enum SealPhase {
     /// The record of a put or delete.
-    Write {
-        located: Located,
-        gate: u64,
-        to: Position,
-    },
+    Write { raised: Raised },
 }

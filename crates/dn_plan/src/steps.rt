@@ -14,7 +14,7 @@ ghost use Rattle.dn_plan.specs.Program.{Runs};
 ghost use Rattle.dn_plan.specs.Sequence.{call_plan};
 
 use crate::phases::{
-    ActPhase, Brief, Entry, Kind, LocatePhase, Located, Room, RoomPhase, SealPhase, Sealing,
+    ActPhase, Brief, Entry, Kind, LocatePhase, Located, Raised, Room, RoomPhase, SealPhase, Sealing,
 };
 use crate::results::{After, Effect, Ending, Next, Step, Then};
 use dn_act::Action;
@@ -89,7 +89,7 @@ fn after_look(brief: &Brief, deed: u64) -> Step
     let read = Deed::read(deed);
     let slot = slot_of(brief.key);
     let next = if read.state == DeedState::Owned && read.lane == brief.lane {
-        Next::Locate(LocatePhase::Owner { floor: read.floor })
+        Next::Locate(LocatePhase::Owner { look: deed })
     } else {
         end(Ending::NotOwner { look: deed })
     };
@@ -103,29 +103,41 @@ fn after_look(brief: &Brief, deed: u64) -> Step
 }
 
 /// What the call's position has to exceed.
-fn need_of(brief: &Brief, floor: u32) -> Need
-    ensures { result ≡ need_of brief.now floor }
+fn need_of(brief: &Brief, look: u64) -> Need
+    ensures { result ≡ need_of brief.now look }
 {
     Need {
-        floor,
+        floor: Deed::read(look).floor,
         last: brief.view.last,
         session: brief.view.session,
     }
 }
 
 /// A get that may not stay at the stamp of the gate raises it.
-fn raise(located: Located, gate: u64, raised: Option<Position>) -> After
-    ensures { result ≡ raises located gate raised }
+fn raise(look: u64, located: Located, gate: u64, raised: Option<Position>) -> After
+    ensures { result ≡ raises look located gate raised }
 {
-    match raised {
-        Some(to) => After::Then(Then::Act(ActPhase::Raise { located, gate, to })),
-        None => After::Then(Then::End(Ending::Worn { stamp: MAX_STAMP })),
-    }
+    let Some(to) = raised else {
+        return After::Then(Then::End(Ending::Worn { stamp: MAX_STAMP }));
+    };
+    let raised = Raised {
+        look,
+        located,
+        gate,
+        to,
+    };
+    After::Then(Then::Act(ActPhase::Raise { raised }))
 }
 
 /// A get that loaded its gate.
-fn read(located: Located, gate: u64, quiet: Option<Position>, raised: Option<Position>) -> After
-    ensures { result ≡ reads located gate quiet raised }
+fn read(
+    look: u64,
+    located: Located,
+    gate: u64,
+    quiet: Option<Position>,
+    raised: Option<Position>,
+) -> After
+    ensures { result ≡ reads look located gate quiet raised }
 {
     match quiet {
         Some(to) => After::Then(Then::End(Ending::Made {
@@ -133,43 +145,50 @@ fn read(located: Located, gate: u64, quiet: Option<Position>, raised: Option<Pos
             at: None,
             located,
         })),
-        None => raise(located, gate, raised),
+        None => raise(look, located, gate, raised),
     }
 }
 
 /// A put or delete that loaded its gate.
-fn write(located: Located, gate: u64, raised: Option<Position>) -> After
-    ensures { result ≡ writes located gate raised }
+fn write(look: u64, located: Located, gate: u64, raised: Option<Position>) -> After
+    ensures { result ≡ writes look located gate raised }
 {
-    match raised {
-        Some(to) => After::Room(RoomPhase::Write { located, gate, to }),
-        None => After::Then(Then::End(Ending::Worn { stamp: MAX_STAMP })),
-    }
+    let Some(to) = raised else {
+        return After::Then(Then::End(Ending::Worn { stamp: MAX_STAMP }));
+    };
+    let raised = Raised {
+        look,
+        located,
+        gate,
+        to,
+    };
+    After::Room(RoomPhase::Write { raised })
 }
 
 /// After the load of a gate without the bit.
-fn after_open(brief: &Brief, floor: u32, located: Located, word: u64) -> After
+fn after_open(brief: &Brief, look: u64, located: Located, word: u64) -> After
     requires brief { FitsBrief brief.now }
-    requires floor { floor < 2 ^ 31 }
-    ensures value { result ≡ opened brief.now floor located word brief.now.kind }
+    requires look { is_owner brief.now.lane look ≡ true }
+    requires free { (gate_of word).fenced ≡ false }
+    ensures value { result ≡ opened brief.now look located word brief.now.kind }
     ensures fits { FitsAfter brief.now result }
     ensures falls { rank_after result < 3 }
     ensures records { records_after result ≤ 1 }
     ensures room { has_room_after result ≡ false }
 {
-    let need = need_of(brief, floor);
+    let need = need_of(brief, look);
     let stamp = Gate::read(word).stamp;
     match brief.kind {
-        Kind::Get => read(located, word, need.quiet(stamp), need.raised(stamp)),
-        Kind::Put | Kind::Delete => write(located, word, need.raised(stamp)),
+        Kind::Get => read(look, located, word, need.quiet(stamp), need.raised(stamp)),
+        Kind::Put | Kind::Delete => write(look, located, word, need.raised(stamp)),
     }
 }
 
 /// After the load of the gate.
-fn after_gate(brief: &Brief, floor: u32, located: Located, word: u64) -> Step
+fn after_gate(brief: &Brief, look: u64, located: Located, word: u64) -> Step
     requires brief { FitsBrief brief.now }
-    requires floor { floor < 2 ^ 31 }
-    ensures value { result ≡ gated brief.now floor located word }
+    requires look { is_owner brief.now.lane look ≡ true }
+    ensures value { result ≡ gated brief.now look located word }
     ensures fits { FitsStep brief.now result }
     ensures falls { rank_next result.next < 3 }
     ensures records { records_next result.next ≤ 1 }
@@ -178,7 +197,7 @@ fn after_gate(brief: &Brief, floor: u32, located: Located, word: u64) -> Step
     if Gate::read(word).fenced {
         return bar(word);
     }
-    go(Next::After(after_open(brief, floor, located, word)))
+    go(Next::After(after_open(brief, look, located, word)))
 }
 
 impl Brief {
@@ -210,10 +229,10 @@ impl ActPhase {
             ActPhase::Gate { .. } => Action::Load {
                 at: gate_at(brief.lane),
             },
-            ActPhase::Raise { gate, to, .. } => Action::Cas {
+            ActPhase::Raise { raised } => Action::Cas {
                 at: gate_at(brief.lane),
-                old: gate,
-                new: sealing_word(to.stamp, Gate::read(gate).len),
+                old: raised.gate,
+                new: sealing_word(raised.to.stamp, Gate::read(raised.gate).len),
             },
         }
     }
@@ -242,14 +261,14 @@ impl ActPhase {
     {
         match self {
             ActPhase::Look => after_look(brief, word),
-            ActPhase::Gate { floor, located } => after_gate(brief, floor, located, word),
-            ActPhase::Raise { located, gate, to } => after_exchange(
-                gate,
+            ActPhase::Gate { look, located } => after_gate(brief, look, located, word),
+            ActPhase::Raise { raised } => after_exchange(
+                raised.gate,
                 word,
                 Ending::Made {
-                    to,
+                    to: raised.to,
                     at: None,
-                    located,
+                    located: raised.located,
                 },
             ),
         }
@@ -259,7 +278,7 @@ impl ActPhase {
 impl LocatePhase {
     /// What comes once the key is located.
     pub fn located(self, brief: &Brief, located: Located) -> After
-        requires { FitsLocate self }
+        requires { FitsLocate brief.now self }
         ensures value { result ≡ located_of self located }
         ensures fits { FitsAfter brief.now result }
         ensures falls { rank_after result < rank_locate self }
@@ -267,9 +286,7 @@ impl LocatePhase {
         ensures room { has_room_after result ≡ false }
     {
         match self {
-            LocatePhase::Owner { floor } => {
-                After::Then(Then::Act(ActPhase::Gate { floor, located }))
-            }
+            LocatePhase::Owner { look } => After::Then(Then::Act(ActPhase::Gate { look, located })),
         }
     }
 }
@@ -286,9 +303,7 @@ impl RoomPhase {
             (result ≡ Then.End (Ending.Full counter segments)) ↔ (room ≡ Room.Full counter segments) }
     {
         match (self, room) {
-            (RoomPhase::Write { located, gate, to }, Room::Found) => {
-                Then::Seal(SealPhase::Write { located, gate, to })
-            }
+            (RoomPhase::Write { raised }, Room::Found) => Then::Seal(SealPhase::Write { raised }),
             (RoomPhase::Write { .. }, Room::Full { counter, segments }) => {
                 Then::End(Ending::Full { counter, segments })
             }
@@ -304,10 +319,10 @@ impl SealPhase {
         ensures stamp { result.stamp < 2 ^ 31 }
     {
         match self {
-            SealPhase::Write { gate, to, .. } => Sealing {
+            SealPhase::Write { raised } => Sealing {
                 entry: Entry::Own,
-                gate,
-                stamp: to.stamp,
+                gate: raised.gate,
+                stamp: raised.to.stamp,
             },
         }
     }
@@ -327,13 +342,13 @@ impl SealPhase {
             (result.next ≡ ends (Ending.Fenced gate)) ↔ IsShut gate word self }
     {
         match self {
-            SealPhase::Write { located, gate, to } => after_exchange(
-                gate,
+            SealPhase::Write { raised } => after_exchange(
+                raised.gate,
                 word,
                 Ending::Made {
-                    to,
+                    to: raised.to,
                     at: Some(at),
-                    located,
+                    located: raised.located,
                 },
             ),
         }

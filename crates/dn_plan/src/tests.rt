@@ -305,7 +305,7 @@ fn exchanges(rt: &impl Abort, brief: &Brief, row: &Row, step: Step) -> Outcome
 /// The key is located, and the gate is loaded.
 fn passes(rt: &impl Abort, brief: &Brief, row: &Row, phase: LocatePhase) -> Outcome
     requires brief { FitsBrief brief.now }
-    requires phase { FitsLocate phase }
+    requires phase { FitsLocate brief.now phase }
 {
     let After::Then(Then::Act(phase)) = phase.located(brief, LOCATED) else {
         panic!(rt; "the gate is next");
