@@ -83,23 +83,24 @@ claim_comes lane s = (
       (refl, refl, λ cell. counted_by lane cell (names s.key s.gate s.opening cell) (acts (at.Name s cell)) (nat_lt cell 256) (names_come lane cell s)),
 )
 
-share_gate_comes : (lane key floor : ℕ) (place : Option Ref) → Comes lane (share_gate lane key floor place) (goes (acts (at.ShareGate key floor place)))
-share_gate_comes lane key floor place = (
+share_gate_comes : (lane key look : ℕ) (place : Option Ref)
+    → Comes lane (share_gate lane key (deed_of look).floor place) (goes (acts (at.ShareGate key look place)))
+share_gate_comes lane key look place = (
   refl,
   refl,
   λ gate.
-      let s : Share = record { key = key; gate = gate; opening = cell_word (record { closed = false; stamp = max (gate_of gate).stamp floor + 1; at = place }) } in
+      let s : Share = record { key = key; look = look; gate = gate; opening = cell_word (record { closed = false; stamp = max (gate_of gate).stamp (deed_of look).floor + 1; at = place }) } in
       gated_by lane gate
-      (if max (gate_of gate).stamp floor == 2 ^ 31 - 1 then Return (Worn (2 ^ 31 - 1)) else FindRoom (claims key gate s.opening))
-      (goes (shares key (max (gate_of gate).stamp floor) place gate)) (gate_of gate).fenced
-      (worn_by lane (FindRoom (claims key gate s.opening)) (rooms (find.Share s)) (max (gate_of gate).stamp floor == 2 ^ 31 - 1) (refl, refl, claim_comes lane s)),
+      (if max (gate_of gate).stamp (deed_of look).floor == 2 ^ 31 - 1 then Return (Worn (2 ^ 31 - 1)) else FindRoom (claims key gate s.opening))
+      (goes (shares key look (max (gate_of gate).stamp (deed_of look).floor) place gate)) (gate_of gate).fenced
+      (worn_by lane (FindRoom (claims key gate s.opening)) (rooms (find.Share s)) (max (gate_of gate).stamp (deed_of look).floor == 2 ^ 31 - 1) (refl, refl, claim_comes lane s)),
 )
 
-share_found_comes : (lane key floor : ℕ) (f : TendFound)
-    → Comes lane (share_found lane key floor f) (goes (next.After (located_in (locate.Share key floor) f)))
-share_found_comes lane key floor found.Nothing = share_gate_comes lane key floor None
-share_found_comes lane key floor (found.At place) = share_gate_comes lane key floor (Some place)
-share_found_comes lane key floor (found.Shared cell opening) = (refl, refl)
+share_found_comes : (lane key look : ℕ) (f : TendFound)
+    → Comes lane (share_found lane key (deed_of look).floor f) (goes (next.After (located_in (locate.Share key look) f)))
+share_found_comes lane key look found.Nothing = share_gate_comes lane key look None
+share_found_comes lane key look (found.At place) = share_gate_comes lane key look (Some place)
+share_found_comes lane key look (found.Shared cell opening) = (refl, refl)
 
 -- ---- an Unshare
 closes_by : (lane gate stamp seen : ℕ) (u : Unshare) (closed : Bool)
@@ -117,27 +118,27 @@ closes_by lane gate stamp seen u false = (
 )
 
 cell_comes : (lane gate seen : ℕ) (u : Unshare)
-    → Comes lane (meets_cell u.floor gate u.cell seen (cell_in u.opening seen)) (goes (cell_met u gate seen))
+    → Comes lane (meets_cell (deed_of u.look).floor gate u.cell seen (cell_in u.opening seen)) (goes (cell_met u gate seen))
 cell_comes lane gate seen u =
-    let stamp : ℕ = max (max (gate_of gate).stamp u.floor) (cell_in u.opening seen).stamp in
+    let stamp : ℕ = max (max (gate_of gate).stamp (deed_of u.look).floor) (cell_in u.opening seen).stamp in
     worn_by lane (closes gate (stamp + 1) u.cell seen (cell_in u.opening seen)) (closing u gate seen (stamp + 1)) (stamp == 2 ^ 31 - 1)
     (closes_by lane gate (stamp + 1) seen u (cell_in u.opening seen).closed)
 
-unshare_gate_comes : (lane : ℕ) (u : Unshare) → Comes lane (unshare_gate lane u.floor u.cell u.opening) (goes (acts (at.UnshareGate u)))
+unshare_gate_comes : (lane : ℕ) (u : Unshare) → Comes lane (unshare_gate lane (deed_of u.look).floor u.cell u.opening) (goes (acts (at.UnshareGate u)))
 unshare_gate_comes lane u = (
   refl,
   refl,
   λ gate.
-      gated_by lane gate (FindRoom (Do (Load (cell_at u.cell)) (λ seen. meets_cell u.floor gate u.cell seen (cell_in u.opening seen))))
+      gated_by lane gate (FindRoom (Do (Load (cell_at u.cell)) (λ seen. meets_cell (deed_of u.look).floor gate u.cell seen (cell_in u.opening seen))))
       (goes (rooms (find.Unshare u gate))) (gate_of gate).fenced
       (refl, refl, (refl, refl, λ seen. cell_comes lane gate seen u)),
 )
 
-unshare_found_comes : (lane floor : ℕ) (f : TendFound)
-    → Comes lane (unshare_found lane floor f) (goes (next.After (located_in (locate.Unshare floor) f)))
-unshare_found_comes lane floor found.Nothing = (refl, refl)
-unshare_found_comes lane floor (found.At place) = (refl, refl)
-unshare_found_comes lane floor (found.Shared cell opening) = unshare_gate_comes lane (record { floor = floor; cell = cell; opening = opening })
+unshare_found_comes : (lane look : ℕ) (f : TendFound)
+    → Comes lane (unshare_found lane (deed_of look).floor f) (goes (next.After (located_in (locate.Unshare look) f)))
+unshare_found_comes lane look found.Nothing = (refl, refl)
+unshare_found_comes lane look (found.At place) = (refl, refl)
+unshare_found_comes lane look (found.Shared cell opening) = unshare_gate_comes lane (record { look = look; cell = cell; opening = opening })
 
 -- ---- a look
 looked_by : (lane look : ℕ) (behind : TendFound → TaskPlan) (phase : TendLocate) (owner : Bool)
@@ -154,8 +155,8 @@ follows_of lane (task.Share key) = (
   refl,
   λ look. (
     refl,
-    looked_by lane look (λ f. share_found lane key (deed_of look).floor f) (locate.Share key (deed_of look).floor) (is_owner lane look)
-        (λ f. share_found_comes lane key (deed_of look).floor f),
+    looked_by lane look (λ f. share_found lane key (deed_of look).floor f) (locate.Share key look) (is_owner lane look)
+        (λ f. share_found_comes lane key look f),
   ),
 )
 follows_of lane (task.Unshare key) = (
@@ -163,8 +164,8 @@ follows_of lane (task.Unshare key) = (
   refl,
   λ look. (
     refl,
-    looked_by lane look (λ f. unshare_found lane (deed_of look).floor f) (locate.Unshare (deed_of look).floor) (is_owner lane look)
-        (λ f. unshare_found_comes lane (deed_of look).floor f),
+    looked_by lane look (λ f. unshare_found lane (deed_of look).floor f) (locate.Unshare look) (is_owner lane look)
+        (λ f. unshare_found_comes lane look f),
   ),
 )
 

@@ -28,7 +28,7 @@ IsTrimmed mark word phase = ⊥
 
 -- the Share is sealed, and its cell was opened
 abbrev pub IsShared : ℕ → ℕ → TendAct → Type 0
-IsShared cell word (at.Open claimed opening) = cell ≡ claimed
+IsShared cell word (at.Open share claimed) = cell ≡ claimed
 IsShared cell word phase = ⊥
 
 -- the deed that was loaded isn't Owned by this lane
@@ -39,7 +39,7 @@ IsNotOwner lane look word phase = ⊥
 
 -- the gate that was loaded has the bit
 abbrev pub IsFenced : ℕ → ℕ → TendAct → Type 0
-IsFenced told word (at.ShareGate key floor place) = (told ≡ word) × ((gate_of word).fenced ≡ true)
+IsFenced told word (at.ShareGate key look place) = (told ≡ word) × ((gate_of word).fenced ≡ true)
 IsFenced told word (at.UnshareGate unshare) = (told ≡ word) × ((gate_of word).fenced ≡ true)
 IsFenced told word phase = ⊥
 
@@ -57,21 +57,21 @@ HasNoCell counter word phase = ⊥
 
 -- the greatest of the stamps of the gate, the floor and, of an Unshare, the cell is the last one
 abbrev pub IsWorn : ℕ → ℕ → TendAct → Type 0
-IsWorn stamp word (at.ShareGate key floor place) =
-    (stamp ≡ 2 ^ 31 - 1) × ((gate_of word).fenced ≡ false) × (share_stamp floor word ≡ 2 ^ 31 - 1)
+IsWorn stamp word (at.ShareGate key look place) =
+    (stamp ≡ 2 ^ 31 - 1) × ((gate_of word).fenced ≡ false) × (share_stamp look word ≡ 2 ^ 31 - 1)
 IsWorn stamp word (at.Cell unshare gate) = (stamp ≡ 2 ^ 31 - 1) × (unshare_stamp unshare gate word ≡ 2 ^ 31 - 1)
 IsWorn stamp word phase = ⊥
 
 -- what was located isn't a Share
 abbrev pub IsPlain : TendLocate → TendFound → Type 0
-IsPlain (locate.Share key floor) found = ⊥
-IsPlain (locate.Unshare floor) found.Nothing = Unit {0}
-IsPlain (locate.Unshare floor) (found.At place) = Unit {0}
-IsPlain (locate.Unshare floor) (found.Shared cell opening) = ⊥
+IsPlain (locate.Share key look) found = ⊥
+IsPlain (locate.Unshare look) found.Nothing = Unit {0}
+IsPlain (locate.Unshare look) (found.At place) = Unit {0}
+IsPlain (locate.Unshare look) (found.Shared cell opening) = ⊥
 
 -- a key that is to be shared was located as a Share
 abbrev pub WasShared : ℕ → TendLocate → TendFound → Type 0
-WasShared cell (locate.Share key floor) found.Nothing = ⊥
-WasShared cell (locate.Share key floor) (found.At place) = ⊥
-WasShared cell (locate.Share key floor) (found.Shared has opening) = cell ≡ has
-WasShared cell (locate.Unshare floor) found = ⊥
+WasShared cell (locate.Share key look) found.Nothing = ⊥
+WasShared cell (locate.Share key look) (found.At place) = ⊥
+WasShared cell (locate.Share key look) (found.Shared has opening) = cell ≡ has
+WasShared cell (locate.Unshare look) found = ⊥

@@ -24,7 +24,7 @@ pub record Tending : Type 0 where
 
 pub record IsTending (t : Tending) : Type 0 where
   pub number : IsLane t.lane
-  pub fits : FitsNext t.wait
+  pub fits : FitsNext t.lane t.wait
 
 abbrev pub tending : ℕ → TendNext → Tending
 tending lane wait = record { lane = lane; wait = wait }

@@ -62,19 +62,19 @@ action_in lane (at.Deed slot) = Load (deed_at slot)
 action_in lane (at.GiveUp slot deed) = Cas (deed_at slot) deed (given_up deed)
 action_in lane at.Mark = Load (mark_at lane)
 action_in lane (at.ShareLook key) = Load (deed_at (slot_of key))
-action_in lane (at.ShareGate key floor place) = Load (gate_at lane)
+action_in lane (at.ShareGate key look place) = Load (gate_at lane)
 action_in lane (at.Count share) = Load cell_counter_at
 action_in lane (at.Claim share) = Add cell_counter_at 1
 action_in lane (at.Name share cell) = Store (cell_key_at cell) share.key
-action_in lane (at.Open cell opening) = Cas (cell_at cell) 0 opening
+action_in lane (at.Open share cell) = Cas (cell_at cell) 0 share.opening
 action_in lane (at.UnshareLook key) = Load (deed_at (slot_of key))
 action_in lane (at.UnshareGate unshare) = Load (gate_at lane)
 action_in lane (at.Cell unshare gate) = Load (cell_at unshare.cell)
 action_in lane (at.Close unshare gate seen stamp) = Cas (cell_at unshare.cell) seen (closed_word unshare.opening seen)
 
 abbrev pub seal_in : TendSealing → TendSeal
-seal_in (seal.Share cell opening gate) = sealing.Share cell opening gate
-seal_in (seal.Unshare place stamp gate) = sealing.Unshare place stamp gate
+seal_in (seal.Share share cell) = sealing.Share cell share.opening share.gate
+seal_in (seal.Unshare unshare place stamp gate) = sealing.Unshare place stamp gate
 
 -- ---- the forms of what comes next
 abbrev pub acts : TendAct → TendNext
@@ -125,16 +125,16 @@ barred gate = learns (Bar gate) (ends (Fenced gate))
 
 -- a Share has the stamp after the greater of the gate's and the floor
 abbrev pub share_stamp : ℕ → ℕ → ℕ
-share_stamp floor gate = max (gate_of gate).stamp floor
+share_stamp look gate = max (gate_of gate).stamp (deed_of look).floor
 
-abbrev pub shares : ℕ → ℕ → Option Ref → ℕ → TendNext
-shares key stamp place gate =
+abbrev pub shares : ℕ → ℕ → ℕ → Option Ref → ℕ → TendNext
+shares key look stamp place gate =
     if stamp == 2 ^ 31 - 1 then ends (Worn (2 ^ 31 - 1))
-    else rooms (find.Share (record { key = key; gate = gate; opening = opening_word (stamp + 1) place }))
+    else rooms (find.Share (record { key = key; look = look; gate = gate; opening = opening_word (stamp + 1) place }))
 
 abbrev pub share_gated : ℕ → ℕ → Option Ref → ℕ → TendTurn
-share_gated key floor place gate =
-    if (gate_of gate).fenced then barred gate else goes (shares key (share_stamp floor gate) place gate)
+share_gated key look place gate =
+    if (gate_of gate).fenced then barred gate else goes (shares key look (share_stamp look gate) place gate)
 
 abbrev pub unshare_gated : Unshare → ℕ → TendTurn
 unshare_gated unshare gate = if (gate_of gate).fenced then barred gate else goes (rooms (find.Unshare unshare gate))
@@ -146,10 +146,10 @@ counted counter behind = goes (if nat_lt counter 256 then behind else ends (NoCe
 
 -- an Unshare has the stamp after the greatest of the gate's, the floor and the cell's
 abbrev pub unshare_stamp : Unshare → ℕ → ℕ → ℕ
-unshare_stamp unshare gate seen = max (max (gate_of gate).stamp unshare.floor) (cell_in unshare.opening seen).stamp
+unshare_stamp unshare gate seen = max (max (gate_of gate).stamp (deed_of unshare.look).floor) (cell_in unshare.opening seen).stamp
 
 abbrev pub unshare_seal : Unshare → ℕ → ℕ → ℕ → TendSealing
-unshare_seal unshare gate seen stamp = seal.Unshare (cell_in unshare.opening seen).at stamp gate
+unshare_seal unshare gate seen stamp = seal.Unshare unshare (cell_in unshare.opening seen).at stamp gate
 
 -- a cell that is closed stays as it is
 abbrev pub closes : Unshare → ℕ → ℕ → ℕ → TendNext
@@ -166,37 +166,37 @@ abbrev pub taken_in : ℕ → TendAct → ℕ → TendTurn
 taken_in lane (at.Deed slot) word = left lane slot word
 taken_in lane (at.GiveUp slot deed) word = exchanged deed word (ends Released)
 taken_in lane at.Mark word = learns (DropBelow word) (ends (Trimmed word))
-taken_in lane (at.ShareLook key) word = looked lane key word (locate.Share key (deed_of word).floor)
-taken_in lane (at.ShareGate key floor place) word = share_gated key floor place word
+taken_in lane (at.ShareLook key) word = looked lane key word (locate.Share key word)
+taken_in lane (at.ShareGate key look place) word = share_gated key look place word
 taken_in lane (at.Count share) word = counted word (acts (at.Claim share))
 taken_in lane (at.Claim share) word = counted word (acts (at.Name share word))
-taken_in lane (at.Name share cell) word = goes (seals (seal.Share cell share.opening share.gate))
-taken_in lane (at.Open cell opening) word = goes (ends (Shared cell))
-taken_in lane (at.UnshareLook key) word = looked lane key word (locate.Unshare (deed_of word).floor)
+taken_in lane (at.Name share cell) word = goes (seals (seal.Share share cell))
+taken_in lane (at.Open share cell) word = goes (ends (Shared cell))
+taken_in lane (at.UnshareLook key) word = looked lane key word (locate.Unshare word)
 taken_in lane (at.UnshareGate unshare) word = unshare_gated unshare word
 taken_in lane (at.Cell unshare gate) word = goes (cell_met unshare gate word)
 taken_in lane (at.Close unshare gate seen stamp) word = exchanged seen word (seals (unshare_seal unshare gate seen stamp))
 
 -- a key that is shared already has its cell
 abbrev pub share_located : ℕ → ℕ → TendFound → TendThen
-share_located key floor found.Nothing = thence.Act (at.ShareGate key floor None)
-share_located key floor (found.At place) = thence.Act (at.ShareGate key floor (Some place))
-share_located key floor (found.Shared cell opening) = thence.Done (Shared cell)
+share_located key look found.Nothing = thence.Act (at.ShareGate key look None)
+share_located key look (found.At place) = thence.Act (at.ShareGate key look (Some place))
+share_located key look (found.Shared cell opening) = thence.Done (Shared cell)
 
 abbrev pub unshare_located : ℕ → TendFound → TendThen
-unshare_located floor found.Nothing = thence.Done Plain
-unshare_located floor (found.At place) = thence.Done Plain
-unshare_located floor (found.Shared cell opening) =
-    thence.Act (at.UnshareGate (record { floor = floor; cell = cell; opening = opening }))
+unshare_located look found.Nothing = thence.Done Plain
+unshare_located look (found.At place) = thence.Done Plain
+unshare_located look (found.Shared cell opening) =
+    thence.Act (at.UnshareGate (record { look = look; cell = cell; opening = opening }))
 
 abbrev pub located_in : TendLocate → TendFound → TendAfter
-located_in (locate.Share key floor) found = after.Then (share_located key floor found)
-located_in (locate.Unshare floor) found = after.Then (unshare_located floor found)
+located_in (locate.Share key look) found = after.Then (share_located key look found)
+located_in (locate.Unshare look) found = after.Then (unshare_located look found)
 
 abbrev pub roomed_in : TendRoom → TendThen
 roomed_in (find.Share share) = thence.Act (at.Count share)
 roomed_in (find.Unshare unshare gate) = thence.Act (at.Cell unshare gate)
 
 abbrev pub sealed_in : TendSealing → TendNext
-sealed_in (seal.Share cell opening gate) = acts (at.Open cell opening)
-sealed_in (seal.Unshare place stamp gate) = ends Unshared
+sealed_in (seal.Share share cell) = acts (at.Open share cell)
+sealed_in (seal.Unshare unshare place stamp gate) = ends Unshared

@@ -2,10 +2,10 @@
 
 ghost use Rattle.std.specs.Prelude.{◌≡◌, ◌≢◌, ◌<◌, ◌≤◌, ◌^◌, ◌↔◌, ℕ, true, false};
 ghost use Rattle.dn_act.specs.Action.{at_of};
-ghost use Rattle.dn_word.specs.Regions.{IsLane};
+ghost use Rattle.dn_plan.specs.Plan.{is_owner};
 ghost use Rattle.dn_tend.specs.Tend.{given_up, opening_word, cell_in, closed_word, action_in, acts, rooms, seals, ends, goes, learns, left, looked, exchanged, barred, shares, share_stamp, share_gated, unshare_gated, counted, unshare_stamp, unshare_seal, closes, cell_met, taken_in};
 ghost use Rattle.std.specs.Option.{ForSome};
-ghost use Rattle.dn_tend.specs.Fit.{FitsAct, FitsLocate, FitsNext, FitsTurn};
+ghost use Rattle.dn_tend.specs.Fit.{IsLook, WasOpen, FitsAct, FitsLocate, FitsNext, FitsTurn};
 ghost use Rattle.dn_tend.specs.Rank.{rank_act, rank_next, records_act, records_next, has_room_act, has_room_next};
 ghost use Rattle.dn_tend.specs.Causes.{IsReleased, IsNotLeaving, IsTrimmed, IsShared, IsNotOwner, IsFenced, IsAgain, HasNoCell, IsWorn};
 
@@ -106,7 +106,7 @@ fn close(opening: u64, seen: u64) -> u64
 fn after_deed(lane: u8, slot: u8, word: u64) -> TendTurn
     requires slot { slot < 64 }
     ensures value { result ≡ left lane slot word }
-    ensures fits { FitsTurn result }
+    ensures fits { FitsTurn lane result }
     ensures falls { rank_next result.next < 2 }
     ensures records { records_next result.next ≤ 0 }
     ensures room { has_room_next result.next ≡ false }
@@ -128,9 +128,9 @@ fn after_deed(lane: u8, slot: u8, word: u64) -> TendTurn
 
 /// After the deed of a key's slot.
 fn after_look(lane: u8, key: u64, word: u64, phase: TendLocate) -> TendTurn
-    requires { FitsLocate phase }
+    requires { is_owner lane word ≡ true → FitsLocate lane phase }
     ensures value { result ≡ looked lane key word phase }
-    ensures fits { FitsTurn result }
+    ensures fits { FitsTurn lane result }
     ensures falls { rank_next result.next < 9 }
     ensures records { records_next result.next ≤ 1 }
     ensures room { has_room_next result.next ≡ false }
@@ -151,10 +151,10 @@ fn after_look(lane: u8, key: u64, word: u64, phase: TendLocate) -> TendTurn
 }
 
 /// After an exchange: on, where it was done.
-fn after_exchange(old: u64, seen: u64, next: TendNext) -> TendTurn
-    requires { FitsNext next }
+fn after_exchange(lane: u8, old: u64, seen: u64, next: TendNext) -> TendTurn
+    requires { FitsNext lane next }
     ensures value { result ≡ exchanged old seen next }
-    ensures fits { FitsTurn result }
+    ensures fits { FitsTurn lane result }
     ensures falls { rank_next result.next ≤ rank_next next }
     ensures records { records_next result.next ≤ records_next next }
     ensures room { has_room_next result.next ≡ true → has_room_next next ≡ true }
@@ -181,11 +181,11 @@ fn opening(stamp: u32, at: Option<Ref>) -> u64
 }
 
 /// After the gate that a Share loaded.
-fn after_share_gate(key: u64, floor: u32, at: Option<Ref>, word: u64) -> TendTurn
-    requires floor { floor < 2 ^ 31 }
+fn after_share_gate(lane: u8, key: u64, look: u64, at: Option<Ref>, word: u64) -> TendTurn
+    requires look { IsLook lane look }
     requires at { ForSome at (λ found. found.offset < 2 ^ 24) }
-    ensures value { result ≡ share_gated key floor at word }
-    ensures fits { FitsTurn result }
+    ensures value { result ≡ share_gated key look at word }
+    ensures fits { FitsTurn lane result }
     ensures falls { rank_next result.next < 7 }
     ensures records { records_next result.next ≤ 1 }
     ensures room { has_room_next result.next ≡ false }
@@ -194,12 +194,13 @@ fn after_share_gate(key: u64, floor: u32, at: Option<Ref>, word: u64) -> TendTur
     if gate.fenced {
         return bar(word);
     }
-    let stamp = gate.stamp.max(floor);
+    let stamp = gate.stamp.max(Deed::read(look).floor);
     if stamp == MAX_STAMP {
         return go(end(TaskAnswer::Worn { stamp: MAX_STAMP }));
     }
     let share = Share {
         key,
+        look,
         gate: word,
         opening: opening(stamp + 1, at),
     };
@@ -207,10 +208,10 @@ fn after_share_gate(key: u64, floor: u32, at: Option<Ref>, word: u64) -> TendTur
 }
 
 /// After the gate that an Unshare loaded.
-fn after_unshare_gate(unshare: Unshare, word: u64) -> TendTurn
-    requires { unshare.floor < 2 ^ 31 }
+fn after_unshare_gate(lane: u8, unshare: Unshare, word: u64) -> TendTurn
+    requires { IsLook lane unshare.look }
     ensures value { result ≡ unshare_gated unshare word }
-    ensures fits { FitsTurn result }
+    ensures fits { FitsTurn lane result }
     ensures falls { rank_next result.next < 7 }
     ensures records { records_next result.next ≤ 1 }
     ensures room { has_room_next result.next ≡ false }
@@ -226,9 +227,11 @@ fn after_unshare_gate(unshare: Unshare, word: u64) -> TendTurn
 }
 
 /// After the counter of claimed cells.
-fn after_count(share: Share, counter: u64) -> TendTurn
+fn after_count(lane: u8, share: Share, counter: u64) -> TendTurn
+    requires look { IsLook lane share.look }
+    requires gate { WasOpen share.gate }
     ensures value { result ≡ counted counter (acts (TendAct.Claim share)) }
-    ensures fits { FitsTurn result }
+    ensures fits { FitsTurn lane result }
     ensures falls { rank_next result.next < 5 }
     ensures records { records_next result.next ≤ 1 }
 {
@@ -240,9 +243,11 @@ fn after_count(share: Share, counter: u64) -> TendTurn
 }
 
 /// After the add that claims a cell, which found its number.
-fn after_claim(share: Share, counter: u64) -> TendTurn
+fn after_claim(lane: u8, share: Share, counter: u64) -> TendTurn
+    requires look { IsLook lane share.look }
+    requires gate { WasOpen share.gate }
     ensures value { result ≡ counted counter (acts (TendAct.Name share counter)) }
-    ensures fits { FitsTurn result }
+    ensures fits { FitsTurn lane result }
     ensures falls { rank_next result.next < 4 }
     ensures records { records_next result.next ≤ 1 }
 {
@@ -261,6 +266,7 @@ fn unshare_seal(unshare: Unshare, gate: u64, seen: u64, stamp: u32) -> TendSeali
     ensures { result ≡ unshare_seal unshare gate seen stamp }
 {
     TendSealing::Unshare {
+        unshare,
         at: read_cell(unshare.opening, seen).at,
         stamp,
         gate,
@@ -268,10 +274,12 @@ fn unshare_seal(unshare: Unshare, gate: u64, seen: u64, stamp: u32) -> TendSeali
 }
 
 /// After the cell, where there is a stamp for the record.
-fn after_met(unshare: Unshare, gate: u64, seen: u64, stamp: u32) -> TendNext
-    requires { stamp < 2 ^ 31 }
+fn after_met(lane: u8, unshare: Unshare, gate: u64, seen: u64, stamp: u32) -> TendNext
+    requires look { IsLook lane unshare.look }
+    requires gate { WasOpen gate }
+    requires stamp { stamp < 2 ^ 31 }
     ensures value { result ≡ closes unshare gate seen stamp }
-    ensures fits { FitsNext result }
+    ensures fits { FitsNext lane result }
     ensures falls { rank_next result < 5 }
     ensures records { records_next result ≤ 1 }
 {
@@ -288,21 +296,22 @@ fn after_met(unshare: Unshare, gate: u64, seen: u64, stamp: u32) -> TendNext
 }
 
 /// After the cell that an Unshare loaded.
-fn after_cell(unshare: Unshare, gate: u64, seen: u64) -> TendNext
-    requires { unshare.floor < 2 ^ 31 }
+fn after_cell(lane: u8, unshare: Unshare, gate: u64, seen: u64) -> TendNext
+    requires look { IsLook lane unshare.look }
+    requires gate { WasOpen gate }
     ensures value { result ≡ cell_met unshare gate seen }
-    ensures fits { FitsNext result }
+    ensures fits { FitsNext lane result }
     ensures falls { rank_next result < 5 }
     ensures records { records_next result ≤ 1 }
 {
     let stamp = Gate::read(gate)
         .stamp
-        .max(unshare.floor)
+        .max(Deed::read(unshare.look).floor)
         .max(read_cell(unshare.opening, seen).stamp);
     if stamp == MAX_STAMP {
         end(TaskAnswer::Worn { stamp: MAX_STAMP })
     } else {
-        after_met(unshare, gate, seen, stamp + 1)
+        after_met(lane, unshare, gate, seen, stamp + 1)
     }
 }
 
@@ -310,7 +319,7 @@ impl TendAct {
     /// The action whose word the task waits for.
     pub fn action(self, lane: u8) -> Action
         requires lane { lane < 64 }
-        requires phase { FitsAct self }
+        requires phase { FitsAct lane self }
         ensures value { result ≡ action_in lane self }
         ensures within { at_of result < 98304 }
     {
@@ -339,10 +348,10 @@ impl TendAct {
                 at: cell_key_at(cell),
                 word: share.key,
             },
-            TendAct::Open { cell, opening } => Action::Cas {
+            TendAct::Open { share, cell } => Action::Cas {
                 at: cell_at(cell),
                 old: 0,
-                new: opening,
+                new: share.opening,
             },
             TendAct::Cell { unshare, .. } => Action::Load {
                 at: cell_at(unshare.cell),
@@ -357,9 +366,9 @@ impl TendAct {
 
     /// What comes after the word that the action found.
     pub fn take(self, lane: u8, word: u64) -> TendTurn
-        requires { FitsAct self }
+        requires { FitsAct lane self }
         ensures value { result ≡ taken_in lane self word }
-        ensures fits { FitsTurn result }
+        ensures fits { FitsTurn lane result }
         ensures falls { rank_next result.next < rank_act self }
         ensures records { records_next result.next ≤ records_act self }
         ensures room { has_room_next result.next ≡ true → has_room_act self ≡ true }
@@ -383,36 +392,40 @@ impl TendAct {
     {
         match self {
             TendAct::Deed { slot } => after_deed(lane, slot, word),
-            TendAct::GiveUp { deed, .. } => after_exchange(deed, word, end(TaskAnswer::Released)),
+            TendAct::GiveUp { deed, .. } => after_exchange(
+                lane,
+                deed,
+                word,
+                end(TaskAnswer::Released),
+            ),
             TendAct::Mark => learn(
                 Effect::DropBelow { mark: word },
                 end(TaskAnswer::Trimmed { mark: word }),
             ),
             TendAct::ShareLook { key } => {
-                let floor = Deed::read(word).floor;
-                after_look(lane, key, word, TendLocate::Share { key, floor })
+                after_look(lane, key, word, TendLocate::Share { key, look: word })
             }
-            TendAct::ShareGate { key, floor, at } => after_share_gate(key, floor, at, word),
-            TendAct::Count { share } => after_count(share, word),
-            TendAct::Claim { share } => after_claim(share, word),
-            TendAct::Name { share, cell } => go(seal(TendSealing::Share {
-                cell,
-                opening: share.opening,
-                gate: share.gate,
-            })),
+            TendAct::ShareGate { key, look, at } => after_share_gate(lane, key, look, at, word),
+            TendAct::Count { share } => after_count(lane, share, word),
+            TendAct::Claim { share } => after_claim(lane, share, word),
+            TendAct::Name { share, cell } => { go(seal(TendSealing::Share { share, cell })) },
             TendAct::Open { cell, .. } => go(end(TaskAnswer::Shared { cell })),
             TendAct::UnshareLook { key } => {
-                let floor = Deed::read(word).floor;
-                after_look(lane, key, word, TendLocate::Unshare { floor })
+                after_look(lane, key, word, TendLocate::Unshare { look: word })
             }
-            TendAct::UnshareGate { unshare } => after_unshare_gate(unshare, word),
-            TendAct::Cell { unshare, gate } => go(after_cell(unshare, gate, word)),
+            TendAct::UnshareGate { unshare } => after_unshare_gate(lane, unshare, word),
+            TendAct::Cell { unshare, gate } => go(after_cell(lane, unshare, gate, word)),
             TendAct::Close {
                 unshare,
                 gate,
                 seen,
                 stamp,
-            } => after_exchange(seen, word, seal(unshare_seal(unshare, gate, seen, stamp))),
+            } => after_exchange(
+                lane,
+                seen,
+                word,
+                seal(unshare_seal(unshare, gate, seen, stamp)),
+            ),
         }
     }
 }

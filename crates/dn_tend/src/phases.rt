@@ -2,23 +2,24 @@ use crate::tasks::TaskAnswer;
 use dn_plan::Effect;
 use dn_word::Ref;
 
-/// What a task knows that loaded the gate and is to share a key: the gate word, and the word that the cell begins with.
+/// What a task knows that loaded the gate and is to share a key: its look, the gate word, and the word that the cell begins with.
 #[derive(Clone, Copy)]
 pub struct Share {
     pub key: u64,
+    pub look: u64,
     pub gate: u64,
     pub opening: u64,
 }
 
-/// What a task knows that located a shared key: the look's floor, and what the key's record says.
+/// What a task knows that located a shared key: its look, and what the key's record says.
 #[derive(Clone, Copy)]
 pub struct Unshare {
-    pub floor: u32,
+    pub look: u64,
     pub cell: u8,
     pub opening: u64,
 }
 
-/// Waits for the word that an action of the task finds.
+/// Waits for the word that an action of the task finds. `look` is the deed that it loaded, by which its lane owns the key's slot.
 #[derive(Clone, Copy)]
 pub enum TendAct {
     /// A release loads the deed of its slot.
@@ -39,7 +40,7 @@ pub enum TendAct {
     /// Loads the gate. The key's value stands at `at`.
     ShareGate {
         key: u64,
-        floor: u32,
+        look: u64,
         at: Option<Ref>,
     },
     /// Loads the counter of claimed cells.
@@ -57,8 +58,8 @@ pub enum TendAct {
     },
     /// Exchanges the cell from 0 to its opening word, once the Share is sealed.
     Open {
+        share: Share,
         cell: u8,
-        opening: u64,
     },
     /// Loads the deed of the key's slot, to end its sharing.
     UnshareLook {
@@ -82,11 +83,11 @@ pub enum TendAct {
     },
 }
 
-/// Waits for the place of the key's record. `floor` is the one in the look.
+/// Waits for the place of the key's record.
 #[derive(Clone, Copy)]
 pub enum TendLocate {
-    Share { key: u64, floor: u32 },
-    Unshare { floor: u32 },
+    Share { key: u64, look: u64 },
+    Unshare { look: u64 },
 }
 
 /// Waits for room for a record.
@@ -100,11 +101,11 @@ pub enum TendRoom {
 #[derive(Clone, Copy)]
 pub enum TendSealing {
     Share {
+        share: Share,
         cell: u8,
-        opening: u64,
-        gate: u64,
     },
     Unshare {
+        unshare: Unshare,
         at: Option<Ref>,
         stamp: u32,
         gate: u64,

@@ -30,10 +30,10 @@ impl Model for TendPlan {
 }
 
 /// The first wait of a task.
-fn begin(task: Task) -> TendNext
+fn begin(lane: u8, task: Task) -> TendNext
     requires { FitsTask task }
     ensures value { result ≡ begun_in task }
-    ensures fits { FitsNext result }
+    ensures fits { FitsNext lane result }
 {
     let phase = match task {
         Task::Release { slot } => TendAct::Deed { slot },
@@ -54,7 +54,7 @@ impl TendPlan {
     {
         TendPlan {
             lane,
-            wait: begin(task),
+            wait: begin(lane, task),
         }
     }
 
@@ -94,7 +94,7 @@ impl TendPlan {
         ensures { self.new ≡ record self.old { wait = located_next found self.old.wait } }
     {
         if let TendNext::Locate(phase) = self.wait {
-            self.wait = TendNext::After(phase.located(found));
+            self.wait = TendNext::After(phase.located(self.lane, found));
         }
     }
 
@@ -103,7 +103,7 @@ impl TendPlan {
         ensures { self.new ≡ record self.old { wait = roomed_next self.old.wait } }
     {
         if let TendNext::After(TendAfter::Room(phase)) = self.wait {
-            self.wait = TendNext::After(TendAfter::Then(phase.roomed()));
+            self.wait = TendNext::After(TendAfter::Then(phase.roomed(self.lane)));
         }
     }
 
@@ -112,7 +112,7 @@ impl TendPlan {
         ensures { self.new ≡ record self.old { wait = sealed_next self.old.wait } }
     {
         if let TendNext::After(TendAfter::Then(TendThen::Seal(phase))) = self.wait {
-            self.wait = phase.sealed();
+            self.wait = phase.sealed(self.lane);
         }
     }
 }

@@ -13,11 +13,11 @@ use crate::tasks::{TaskAnswer, TendFound, TendSeal};
 
 impl TendLocate {
     /// What comes once the key is located.
-    pub fn located(self, found: TendFound) -> TendAfter
-        requires phase { FitsLocate self }
+    pub fn located(self, lane: u8, found: TendFound) -> TendAfter
+        requires phase { FitsLocate lane self }
         requires found { FitsFound found }
         ensures value { result ≡ located_in self found }
-        ensures fits { FitsAfter result }
+        ensures fits { FitsAfter lane result }
         ensures falls { rank_after result < 8 }
         ensures records { records_after result ≤ 1 }
         ensures room { has_room_after result ≡ false }
@@ -28,27 +28,27 @@ impl TendLocate {
             ↔ WasShared cell self found }
     {
         let then = match (self, found) {
-            (TendLocate::Share { key, floor }, TendFound::Nothing) => {
+            (TendLocate::Share { key, look }, TendFound::Nothing) => {
                 TendThen::Act(TendAct::ShareGate {
                     key,
-                    floor,
+                    look,
                     at: None,
                 })
             }
-            (TendLocate::Share { key, floor }, TendFound::At(at)) => {
+            (TendLocate::Share { key, look }, TendFound::At(at)) => {
                 TendThen::Act(TendAct::ShareGate {
                     key,
-                    floor,
+                    look,
                     at: Some(at),
                 })
             }
             (TendLocate::Share { .. }, TendFound::Shared { cell, .. }) => {
                 TendThen::Done(TaskAnswer::Shared { cell })
             }
-            (TendLocate::Unshare { floor }, TendFound::Shared { cell, opening }) => {
+            (TendLocate::Unshare { look }, TendFound::Shared { cell, opening }) => {
                 TendThen::Act(TendAct::UnshareGate {
                     unshare: Unshare {
-                        floor,
+                        look,
                         cell,
                         opening,
                     },
@@ -64,10 +64,10 @@ impl TendLocate {
 
 impl TendRoom {
     /// What comes once there is room.
-    pub fn roomed(self) -> TendThen
-        requires { FitsRoom self }
+    pub fn roomed(self, lane: u8) -> TendThen
+        requires { FitsRoom lane self }
         ensures value { result ≡ roomed_in self }
-        ensures fits { FitsThen result }
+        ensures fits { FitsThen lane result }
         ensures falls { rank_then result < 6 }
         ensures records { records_then result ≤ 1 }
     {
@@ -84,32 +84,33 @@ impl TendSealing {
         ensures { result ≡ seal_in self }
     {
         match self {
-            TendSealing::Share {
+            TendSealing::Share { share, cell } => TendSeal::Share {
                 cell,
-                opening,
-                gate,
-            } => TendSeal::Share {
-                cell,
-                opening,
-                gate,
+                opening: share.opening,
+                gate: share.gate,
             },
-            TendSealing::Unshare { at, stamp, gate } => TendSeal::Unshare { at, stamp, gate },
+            TendSealing::Unshare {
+                at,
+                stamp,
+                gate,
+                ..
+            } => TendSeal::Unshare { at, stamp, gate },
         }
     }
 
     /// What comes once it is sealed.
-    pub fn sealed(self) -> TendNext
-        requires { FitsSeal self }
+    pub fn sealed(self, lane: u8) -> TendNext
+        requires { FitsSeal lane self }
         ensures value { result ≡ sealed_in self }
-        ensures fits { FitsNext result }
+        ensures fits { FitsNext lane result }
         ensures falls { rank_next result < 2 }
         ensures records { records_next result < 1 }
         ensures room { has_room_next result ≡ false }
     {
         match self {
-            TendSealing::Share { cell, opening, .. } => TendNext::After(TendAfter::Then(
-                TendThen::Act(TendAct::Open { cell, opening }),
-            )),
+            TendSealing::Share { share, cell } => TendNext::After(TendAfter::Then(TendThen::Act(
+                TendAct::Open { share, cell },
+            ))),
             TendSealing::Unshare { .. } => {
                 TendNext::After(TendAfter::Then(TendThen::Done(TaskAnswer::Unshared)))
             }
