@@ -1,13 +1,10 @@
-use Rattle.std.proofs.Common.{◌≡◌, ℕ, ◌==◌, Option, Some, None, Bool, true, false, if◌then◌else◌, refl}
-use Rattle.dn_word.specs.Deed.{deed_of}
+use Rattle.std.proofs.Common.{ℕ, ◌==◌, Option, Some, None, Bool, true, false, if◌then◌else◌, refl}
 use Rattle.dn_word.specs.Gate.{gate_of}
 use Rattle.dn_word.specs.Need.{quiet_of, raised_of}
 use Rattle.dn_word.specs.declared.positions.Position.{Position}
-use Rattle.dn_word.specs.declared.packed.place.Ref.{Ref}
-use Rattle.dn_model.specs.Regions.{slot_of}
-use Rattle.dn_plan.specs.Plan.{is_owner, need_of, acts, rooms, seals, ends, goes, learns, barred, exchanged, raised_at, raises, reads, writes, opened, gated, roomed_of}
-use Rattle.dn_plan.specs.Program.{Plan, Return, Locate, Follows, Runs}
-use Rattle.dn_plan.specs.Sequence.{shut, raise, read, seal_at, in_room, write, by_kind, pass_gate, call_plan}
+use Rattle.dn_plan.specs.Plan.{is_owner, need_of, acts, ends, goes, barred, raised_at, raises, reads, writes, opened, roomed_of}
+use Rattle.dn_plan.specs.Program.{Return, Locate, Follows, Runs}
+use Rattle.dn_plan.specs.Sequence.{shut, raise, read, in_room, write, by_kind, pass_gate, call_plan}
 use Rattle.dn_plan.specs.declared.phases.Kind.{Kind}
 use Rattle.dn_plan.specs.declared.phases.Kind.TheVariants as kind
 use Rattle.dn_plan.specs.declared.phases.Brief.{Brief}
@@ -20,7 +17,6 @@ use Rattle.dn_plan.specs.declared.phases.RoomPhase.TheVariants as find
 use Rattle.dn_plan.specs.declared.phases.SealPhase.TheVariants as seal
 use Rattle.dn_plan.specs.declared.results.Ending.{Ending}
 use Rattle.dn_plan.specs.declared.results.Ending.TheVariants.{NotOwner}
-use Rattle.dn_plan.specs.declared.results.Effect.TheVariants.{Epoch}
 use Rattle.dn_plan.specs.declared.results.After.TheVariants as after
 use Rattle.dn_plan.specs.declared.results.Next.TheVariants as next
 

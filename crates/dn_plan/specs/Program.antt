@@ -1,4 +1,4 @@
-use Rattle.std.specs.Prelude.{◌≡◌, ℕ, Option, Some, None}
+use Rattle.std.specs.Prelude.{◌≡◌, ℕ}
 use Rattle.dn_word.specs.declared.packed.place.Ref.{Ref}
 use Rattle.dn_act.specs.declared.actions.Action.{Action}
 use Rattle.dn_plan.specs.Plan.{action_of, sealing_of, acts, rooms, seals, ends, goes, learns, taken_of, located_of, roomed_of, sealed_of}
@@ -16,8 +16,9 @@ use Rattle.dn_plan.specs.declared.results.After.TheVariants as after
 use Rattle.dn_plan.specs.declared.results.Next.TheVariants as next
 use Rattle.dn_plan.specs.declared.results.Step.{Step}
 
--- A plan to read: an answer, or one action or service after another, each going on by what was found. A seal goes on by the place of
--- its record and by the word that its exchange found. Where the lane comes to know something, Learn says it.
+-- A plan to read: an answer, or one action or service after another, each going on by what was found. A seal goes on
+-- by the place of its record and by the word that its exchange found. Where the lane comes to know something, Learn
+-- says it.
 pub data Plan : Type 0 where
   Return : Ending → Plan
   Learn : Effect → Plan → Plan

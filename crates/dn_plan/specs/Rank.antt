@@ -70,8 +70,8 @@ abbrev pub records_next : Next → ℕ
 records_next (next.Locate phase) = records_locate phase
 records_next (next.After to) = records_after to
 
--- Whether room was found before a phase, for a record that isn't sealed yet. Only the finding of room leads from a phase where it
--- wasn't to one where it was, and a record is sealed only there.
+-- Whether room was found before a phase, for a record that isn't sealed yet. Only the finding of room leads from a
+-- phase where it wasn't to one where it was, and a record is sealed only there.
 abbrev pub has_room_act : ActPhase → Bool
 has_room_act at.Look = false
 has_room_act (at.Gate look located) = false

@@ -73,7 +73,8 @@ pub struct Raised {
     pub located: Located,
     /// The gate word that it loaded, without the bit of a fence.
     pub gate: u64,
-    /// Where it is to stand: by the position rule, behind the gate's stamp, the look's floor and the session's last position.
+    /// Where it is to stand: by the position rule, behind the gate's stamp, the look's floor and the session's last
+    /// position.
     pub to: Position,
 }
 

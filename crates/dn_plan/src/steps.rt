@@ -214,8 +214,8 @@ impl Brief {
 }
 
 impl ActPhase {
-    /// The action whose word the plan waits for: a load of the deed of the key's slot or of the lane's gate, or an exchange
-    /// of that gate which leaves its length.
+    /// The action whose word the plan waits for: a load of the deed of the key's slot or of the lane's gate, or an
+    /// exchange of that gate which leaves its length.
     pub fn action(self, brief: &Brief) -> Action
         requires brief { FitsBrief brief.now }
         requires phase { FitsAct brief.now self }
@@ -237,8 +237,8 @@ impl ActPhase {
         }
     }
 
-    /// What comes after the word that the action found. Each answer comes exactly where its clause says. `Full` never does:
-    /// it is told by the finding of room.
+    /// What comes after the word that the action found. Each answer comes exactly where its clause says. `Full` never
+    /// does: it is told by the finding of room.
     pub fn take(self, brief: &Brief, word: u64) -> Step
         requires brief { FitsBrief brief.now }
         requires phase { FitsAct brief.now self }

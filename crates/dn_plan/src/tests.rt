@@ -9,8 +9,8 @@ use dn_word::{Position, Ref};
 use std::process::Abort;
 use std::test::Fail;
 
-/// What a call of lane 1 on key 1 finds, and what it comes to. The key is in slot 34, whose deed stands at 226; the gate
-/// stands at 65. Its log has 12 words, and the call's record is to have three.
+/// What a call of lane 1 on key 1 finds, and what it comes to. The key is in slot 34, whose deed stands at 226; the
+/// gate stands at 65. Its log has 12 words, and the call's record is to have three.
 #[derive(Clone, Copy)]
 struct Row {
     kind: Kind,

@@ -1,23 +1,20 @@
-use Rattle.std.proofs.Common.{◌≡◌, ℕ, ◌+◌, ◌-◌, ◌^◌, ◌==◌, max, nat_lt, Option, Some, None, Bool, true, false, if◌then◌else◌, refl}
+use Rattle.std.proofs.Common.{ℕ, ◌+◌, ◌-◌, ◌^◌, ◌==◌, max, nat_lt, Option, Some, None, Bool, true, false, if◌then◌else◌, refl}
 use Rattle.dn_word.specs.Cell.{cell_word}
 use Rattle.dn_word.specs.Deed.{deed_of, deed_word}
 use Rattle.dn_word.specs.Gate.{gate_of}
-use Rattle.dn_word.specs.declared.packed.cell.Cell.{Cell}
 use Rattle.dn_word.specs.declared.packed.deed.DeedState.TheVariants.{Released as GivenUp}
 use Rattle.dn_word.specs.declared.packed.place.Ref.{Ref}
-use Rattle.dn_act.specs.declared.actions.Action.TheVariants.{Load, Store, Cas, Add}
-use Rattle.dn_model.specs.Regions.{deed_at, gate_at}
+use Rattle.dn_act.specs.declared.actions.Action.TheVariants.{Load, Cas, Add}
+use Rattle.dn_model.specs.Regions.{deed_at}
 use Rattle.dn_word.specs.Regions.{cell_counter_at, cell_at}
 use Rattle.dn_plan.specs.Plan.{is_owner}
-use Rattle.dn_plan.specs.declared.results.Effect.{Effect}
 use Rattle.dn_plan.specs.declared.results.Effect.TheVariants as effect
-use Rattle.dn_tend.specs.Tend.{acts, rooms, seals, ends, goes, barred, exchanged, counted, asks_to_leave, cell_in, unshare_seal, shares, closes as closing, cell_met, located_in}
-use Rattle.dn_tend.specs.Plan.{Tending, tending, begun}
+use Rattle.dn_tend.specs.Tend.{acts, rooms, seals, ends, goes, barred, asks_to_leave, cell_in, unshare_seal, shares, closes as closing, cell_met, located_in}
+use Rattle.dn_tend.specs.Plan.{tending, begun}
 use Rattle.dn_tend.specs.Program.{TaskPlan, Return, Learn, Do, Locate, FindRoom, Follows, CarriesOut}
-use Rattle.dn_tend.specs.Sequence.{release, opens, names, claims, share_gate, share_found, share, unshares, closes, meets_cell, unshare_gate, unshare_found, unshare, task_plan}
+use Rattle.dn_tend.specs.Sequence.{names, claims, share_gate, share_found, unshares, closes, meets_cell, unshare_gate, unshare_found, task_plan}
 use Rattle.dn_tend.specs.declared.tasks.Task.{Task}
 use Rattle.dn_tend.specs.declared.tasks.Task.TheVariants as task
-use Rattle.dn_tend.specs.declared.tasks.TaskAnswer.{TaskAnswer}
 use Rattle.dn_tend.specs.declared.tasks.TaskAnswer.TheVariants.{Released, NotLeaving, NotOwner, Fenced, Again, NoCell, Worn}
 use Rattle.dn_tend.specs.declared.tasks.TendFound.{TendFound}
 use Rattle.dn_tend.specs.declared.tasks.TendFound.TheVariants as found
@@ -27,7 +24,6 @@ use Rattle.dn_tend.specs.declared.phases.TendAct.TheVariants as at
 use Rattle.dn_tend.specs.declared.phases.TendLocate.{TendLocate}
 use Rattle.dn_tend.specs.declared.phases.TendLocate.TheVariants as locate
 use Rattle.dn_tend.specs.declared.phases.TendRoom.TheVariants as find
-use Rattle.dn_tend.specs.declared.phases.TendSealing.TheVariants as seal
 use Rattle.dn_tend.specs.declared.phases.TendNext.{TendNext}
 use Rattle.dn_tend.specs.declared.phases.TendNext.TheVariants as next
 use Rattle.dn_tend.specs.declared.phases.TendTurn.{TendTurn}

@@ -7,7 +7,6 @@ use Rattle.dn_tend.specs.declared.tasks.Task.TheVariants as task
 use Rattle.dn_tend.specs.declared.tasks.TendFound.{TendFound}
 use Rattle.dn_tend.specs.declared.tasks.TendStep.{TendStep}
 use Rattle.dn_tend.specs.declared.tasks.TendStep.TheVariants as step
-use Rattle.dn_tend.specs.declared.phases.TendAct.{TendAct}
 use Rattle.dn_tend.specs.declared.phases.TendAct.TheVariants as at
 use Rattle.dn_tend.specs.declared.phases.TendThen.{TendThen}
 use Rattle.dn_tend.specs.declared.phases.TendThen.TheVariants as thence

@@ -7,8 +7,8 @@ use Rattle.dn_tend.specs.declared.tasks.TendFound.{TendFound}
 use Rattle.dn_tend.specs.declared.tasks.TendSeal.{TendSeal}
 use Rattle.dn_tend.specs.declared.tasks.TendStep.TheVariants as step
 
--- A task to read: an answer, or one action or service after another, each going on by what was found. Where the lane comes to know
--- something, Learn says it.
+-- A task to read: an answer, or one action or service after another, each going on by what was found. Where the lane
+-- comes to know something, Learn says it.
 pub data TaskPlan : Type 0 where
   Return : TaskAnswer → TaskPlan
   Learn : Effect → TaskPlan → TaskPlan

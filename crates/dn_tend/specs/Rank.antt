@@ -1,10 +1,6 @@
 use Rattle.std.specs.Prelude.{ℕ, Bool, true, false}
 use Rattle.dn_tend.specs.declared.phases.TendAct.{TendAct}
 use Rattle.dn_tend.specs.declared.phases.TendAct.TheVariants as at
-use Rattle.dn_tend.specs.declared.phases.TendLocate.{TendLocate}
-use Rattle.dn_tend.specs.declared.phases.TendRoom.{TendRoom}
-use Rattle.dn_tend.specs.declared.phases.TendSealing.{TendSealing}
-use Rattle.dn_tend.specs.declared.phases.TendSealing.TheVariants as seal
 use Rattle.dn_tend.specs.declared.phases.TendThen.{TendThen}
 use Rattle.dn_tend.specs.declared.phases.TendThen.TheVariants as thence
 use Rattle.dn_tend.specs.declared.phases.TendAfter.{TendAfter}
@@ -70,8 +66,8 @@ abbrev pub records_next : TendNext → ℕ
 records_next (next.Locate phase) = 1
 records_next (next.After to) = records_after to
 
--- Whether room was found before a phase, for a record that isn't sealed yet. Only the finding of room leads from a phase where it
--- wasn't to one where it was, and a record is sealed only there.
+-- Whether room was found before a phase, for a record that isn't sealed yet. Only the finding of room leads from a
+-- phase where it wasn't to one where it was, and a record is sealed only there.
 abbrev pub has_room_act : TendAct → Bool
 has_room_act (at.Deed slot) = false
 has_room_act (at.GiveUp slot deed) = false

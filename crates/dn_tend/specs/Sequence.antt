@@ -1,5 +1,5 @@
 use Rattle.std.specs.Prelude.{ℕ, ◌+◌, ◌-◌, ◌^◌, ◌==◌, max, nat_lt, true, false, Option, Some, None, if◌then◌else◌}
-use Rattle.dn_word.specs.Cell.{cell_of, cell_word}
+use Rattle.dn_word.specs.Cell.{cell_word}
 use Rattle.dn_word.specs.Deed.{deed_of, deed_word}
 use Rattle.dn_word.specs.Gate.{gate_of}
 use Rattle.dn_word.specs.Regions.{cell_counter_at, cell_at, cell_key_at}

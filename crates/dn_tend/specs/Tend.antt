@@ -19,7 +19,6 @@ use Rattle.dn_tend.specs.declared.tasks.TendFound.{TendFound}
 use Rattle.dn_tend.specs.declared.tasks.TendFound.TheVariants as found
 use Rattle.dn_tend.specs.declared.tasks.TendSeal.{TendSeal}
 use Rattle.dn_tend.specs.declared.tasks.TendSeal.TheVariants as sealing
-use Rattle.dn_tend.specs.declared.phases.Share.{Share}
 use Rattle.dn_tend.specs.declared.phases.Unshare.{Unshare}
 use Rattle.dn_tend.specs.declared.phases.TendAct.{TendAct}
 use Rattle.dn_tend.specs.declared.phases.TendAct.TheVariants as at

@@ -2,7 +2,8 @@ use crate::tasks::TaskAnswer;
 use dn_plan::Effect;
 use dn_word::Ref;
 
-/// What a task knows that loaded the gate and is to share a key: its look, the gate word, and the word that the cell begins with.
+/// What a task knows that loaded the gate and is to share a key: its look, the gate word, and the word that the cell
+/// begins with.
 #[derive(Clone, Copy)]
 pub struct Share {
     pub key: u64,
@@ -19,7 +20,8 @@ pub struct Unshare {
     pub opening: u64,
 }
 
-/// Waits for the word that an action of the task finds. `look` is the deed that it loaded, by which its lane owns the key's slot.
+/// Waits for the word that an action of the task finds. `look` is the deed that it loaded, by which its lane owns the
+/// key's slot.
 #[derive(Clone, Copy)]
 pub enum TendAct {
     /// A release loads the deed of its slot.

@@ -75,7 +75,8 @@ impl TendPlan {
         }
     }
 
-    /// Takes the word that the action found, and answers what the lane learns by it. A task that asks for no action stays.
+    /// Takes the word that the action found, and answers what the lane learns by it. A task that asks for no action
+    /// stays.
     pub fn take(&mut self, word: u64) -> Option<Effect>
         ensures effect { result ≡ (turn_of self.old word).effect }
         ensures after { self.new ≡ record self.old { wait = (turn_of self.old word).next } }

@@ -37,8 +37,8 @@ pub enum TaskAnswer {
     Again { old: u64, seen: u64 },
     /// The cell counter that this task read is at least 256.
     NoCell { counter: u64 },
-    /// There is no room for the record: the lane has 256 `segments` and `counter` is 0, or `counter`, the segment counter
-    /// that was read, is at least the number of the pool's.
+    /// There is no room for the record: the lane has 256 `segments` and `counter` is 0, or `counter`, the segment
+    /// counter that was read, is at least the number of the pool's.
     Full { counter: u64, segments: u32 },
     /// A stamp behind the last one is needed, which is `stamp`.
     Worn { stamp: u32 },
@@ -51,9 +51,11 @@ pub enum TendStep {
     Act(Action),
     /// To locate the task's key and tell what was found to `located`.
     Locate,
-    /// To find room for a record of three words and tell it by `roomed`; where there is none the lane ends the task as Full.
+    /// To find room for a record of three words and tell it by `roomed`; where there is none the lane ends the task
+    /// as Full.
     Room,
-    /// To seal this record and tell it by `sealed`; where its exchange found another gate the lane ends the task as Fenced.
+    /// To seal this record and tell it by `sealed`; where its exchange found another gate the lane ends the task as
+    /// Fenced.
     Seal(TendSeal),
     /// Nothing more: the task has this answer.
     Done(TaskAnswer),
