@@ -1,0 +1,6 @@
+pub mod Plan
+pub mod Fit
+pub mod Rank
+pub mod Causes
+pub mod Program
+pub mod Sequence
