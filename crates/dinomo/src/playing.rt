@@ -95,7 +95,7 @@ fn call_line<M: Memory>(
 {
     match line {
         Line::Call { session, call, .. } => world.call(pool, out, *session, call),
-        _ => Ok(()),
+        _ => unreachable!(),
     }
 }
 
@@ -300,7 +300,8 @@ fn refuse<K: Sink>(alloc: Global, sink: &mut K, line: u64, cause: Cause) -> Stat
     ensures part { result ≡ Status.WriteFault
         → WroteFront (K.written sink.old) (K.written sink.new) (bad_line_text line (name_of cause)) }
     ensures line { result ≡ Status.BadScript
-        → Writes (K.written sink.old) (K.written sink.new) (bad_line_text line (name_of cause)) }
+        → Writes (K.written sink.old) (K.written sink.new)
+        (bad_line_text line (name_of cause)) }
 {
     let mut out = Vec::new(alloc);
     match bad_line(&mut out, line, cause.name()) {

@@ -7,6 +7,7 @@ use Rattle.dn_word.specs.declared.packed.deed.DeedState.{DeedState}
 use Rattle.dn_word.specs.declared.packed.deed.DeedState.TheVariants.{Nobody, Owned, Leaving, Released}
 use Rattle.dn_act.specs.declared.actions.Action.{Action}
 use Rattle.dn_act.specs.declared.actions.Action.TheVariants.{Load, Store, Cas, Or}
+use Rattle.dn_word.specs.Regions.{format_at}
 use Rattle.dn_model.specs.Regions.{gate_at, mark_at, deed_at}
 use Rattle.dn_monitor.specs.Grant.{granted_word, leaving_word}
 use Rattle.dn_monitor.specs.declared.orders.Order.{Order}
@@ -60,7 +61,7 @@ heir_of heirs (Takeover lane slot n) = slice_index heirs slot
 -- ---- the actions
 abbrev pub next_in : List ℕ → MonitorPlace → Option Action
 next_in heirs at.Done = None
-next_in heirs (at.Format segments) = Some (Store 0 (format_word (record { segments = segments; number = 1 })))
+next_in heirs (at.Format segments) = Some (Store format_at (format_word (record { segments = segments; number = 1 })))
 next_in heirs (at.Look slot) = Some (Load (deed_at slot))
 next_in heirs (at.Fence lane) = Some (Or (gate_at lane) (2 ^ 63))
 next_in heirs (at.Deed errand) = Some (Load (deed_at (slot_in errand)))

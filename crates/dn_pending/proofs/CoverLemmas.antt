@@ -1,6 +1,6 @@
 use Rattle.std.proofs.Common.{◌≡◌, ℕ, suc, zero, min, None, ◌+◌, ◌-◌, ◌/◌, ◌%◌, ◌<◌, ◌≤◌, Bool, true, false, List, [], ◌∷◌, ◌++◌, length, take, drop, reverse, refl, sym, ap, ◌∙◌, arith, subst, add-one, All, nat_lt, nat_le, if◌then◌else◌, replicate, find, ◌==◌}
 use Rattle.std.proofs.lemmas.Bool.{ltb-true}
-use Rattle.std.proofs.lemmas.List.{drop_all, length-replicate, length-reverse, length-take}
+use Rattle.std.proofs.lemmas.List.{length-replicate, length-reverse, length-take}
 use Rattle.std.specs.Option.{option_map}
 use Rattle.std.proofs.lemmas.List.Kept.{AllPairs-filter}
 use Rattle.std.proofs.lemmas.List.Quantifiers.{all_pairs_push}
@@ -12,7 +12,7 @@ use Rattle.dn_pending.specs.declared.filters.KeyBits.{KeyBits}
 use Rattle.dn_pending.specs.Entries.{IsRising, kept_from, last_of}
 use Rattle.dn_pending.specs.Filter.{bits_of, may_hold, added_to, AreInside}
 use Rattle.dn_pending.specs.Segments.{IsOf, Covers, IsOpen, IsFit}
-use Rattle.dn_pending.proofs.EntryLaws.{kept_from-front, kept_from-past, last_of-none}
+use Rattle.dn_pending.proofs.EntryLaws.{entry_of, kept_from-front, kept_from-past, last_of-none}
 use Rattle.dn_pending.proofs.FilterLemmas.{may_hold-added, may_hold-kept, length-added}
 use Rattle.dn_pending.proofs.ListLemmas.{All-reverse, take-nil, reverse-push, reverse-oldest, reverse-drop, reverse-front, reverse-back, drop-take_less, take-take_swap}
 
@@ -104,24 +104,6 @@ IsFit-shed segments mark entries left fit is some =
     enough : (a k n : ℕ) → 1 ≤ a → a ≡ min k n → 1 ≤ k
     enough a k n h e = omega arith
 
--- nothing is left of a table without entries
-pub IsFit-none : (segments : List Segment) (left : List Entry) → length left ≡ 0 → IsFit (drop (length segments) segments) left
-IsFit-none segments [] none = record {
-  rising = λ i j d h k. absurd (below_none j k);
-  covers = subst (λ ss. Covers (reverse ss) []) (sym (drop_all (length segments) segments (same_le (length segments)))) refl;
-  newest = subst (λ ss. IsOpen (reverse ss) []) (sym (drop_all (length segments) segments (same_le (length segments)))) tt;
-}
-  where
-    below_none : (j : ℕ) → j < 0 → ⊥
-    below_none j h = omega arith
-
-    same_le : (n : ℕ) → n ≤ n
-    same_le n = omega arith
-IsFit-none segments (e ∷ left) none = absurd (some_left (length left) none)
-  where
-    some_left : (n : ℕ) → suc n ≡ 0 → ⊥
-    some_left n h = omega arith
-
 -- the newest segment has no more entries than words before a later place that lies in it
 room_by : (s : Segment) (e : Entry) (entries : List Entry) (at count : ℕ) → All (IsOf s) (take count (e ∷ entries)) → count ≤ e.at % 1024 + 1 → e.at < at → s.number ≡ at / 1024 → count ≤ at % 1024
 room_by s e entries at zero own few past there = omega arith
@@ -144,9 +126,6 @@ room_left front s entries at fit past there =
 words_in : (s : Segment) (older : List Segment) (entries : List Entry) → IsOpen (s ∷ older) entries → length s.filter.words ≡ 16
 words_in s older [] newest = absurd newest
 words_in s older (e ∷ entries) newest = newest.1
-
-abbrev entry_of : ℕ → ℕ → Entry
-entry_of key at = record { key = key; at = at }
 
 -- a segment with one more entry
 abbrev pub grown : Segment → KeyBits → Segment

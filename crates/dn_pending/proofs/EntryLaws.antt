@@ -28,7 +28,7 @@ falling-head : (entry : Entry) (entries : List Entry) → IsFalling (entry ∷ e
 falling-head entry entries falls k d h = falls 0 (suc k) d (omega arith) (omega (arith, h))
 
 -- an entry that has the key is the one with its place
-abbrev entry_of : ℕ → ℕ → Entry
+abbrev pub entry_of : ℕ → ℕ → Entry
 entry_of key at = record { key = key; at = at }
 
 same_entry : (entry : Entry) (key at : ℕ) → entry.key ≡ key → entry.at ≡ at → entry ≡ entry_of key at

@@ -2,11 +2,10 @@ use Rattle.std.specs.Prelude.{ℕ, ◌-◌, ◌^◌, ◌==◌, Option, Some, Non
 use Rattle.dn_word.specs.Deed.{deed_of}
 use Rattle.dn_word.specs.Gate.{gate_of, gate_word}
 use Rattle.dn_word.specs.Need.{quiet_of, raised_of}
-use Rattle.dn_word.specs.declared.positions.Need.{Need}
 use Rattle.dn_word.specs.declared.positions.Position.{Position}
 use Rattle.dn_act.specs.declared.actions.Action.TheVariants.{Load, Cas}
 use Rattle.dn_model.specs.Regions.{deed_at, slot_of, gate_at}
-use Rattle.dn_plan.specs.Plan.{is_owner}
+use Rattle.dn_plan.specs.Plan.{is_owner, need_of}
 use Rattle.dn_plan.specs.Program.{Plan, Return, Learn, Do, Locate, FindRoom, Seal}
 use Rattle.dn_plan.specs.declared.phases.Kind.{Kind}
 use Rattle.dn_plan.specs.declared.phases.Kind.TheVariants.{Get, Put, Delete}
@@ -19,10 +18,6 @@ use Rattle.dn_plan.specs.declared.results.Ending.TheVariants.{Made, NotOwner, Fe
 use Rattle.dn_plan.specs.declared.results.Effect.TheVariants.{Epoch, Bar}
 
 -- The call of a slot's owner, as a plan to read.
-
--- what the call's position has to exceed: the look's floor, and the session's last position
-abbrev pub need : Brief → ℕ → Need
-need b look = record { floor = (deed_of look).floor; last = b.view.last; session = b.view.session }
 
 -- a gate that has the bit, or isn't the loaded one, closes the lane
 abbrev pub shut : ℕ → Plan
@@ -56,9 +51,9 @@ write located gate (Some to) = FindRoom (λ room. in_room located gate to room)
 -- ---- by the gate that was loaded
 abbrev pub by_kind : Brief → ℕ → Located → ℕ → Kind → Plan
 by_kind b look located gate Get =
-    read b located gate (quiet_of (need b look) (gate_of gate).stamp) (raised_of (need b look) (gate_of gate).stamp)
-by_kind b look located gate Put = write located gate (raised_of (need b look) (gate_of gate).stamp)
-by_kind b look located gate Delete = write located gate (raised_of (need b look) (gate_of gate).stamp)
+    read b located gate (quiet_of (need_of b look) (gate_of gate).stamp) (raised_of (need_of b look) (gate_of gate).stamp)
+by_kind b look located gate Put = write located gate (raised_of (need_of b look) (gate_of gate).stamp)
+by_kind b look located gate Delete = write located gate (raised_of (need_of b look) (gate_of gate).stamp)
 
 abbrev pub pass_gate : Brief → ℕ → Located → Plan
 pass_gate b look located =

@@ -2,6 +2,7 @@
 
 ghost use Rattle.std.specs.Prelude.{◌≡◌, ◌≢◌, ◌<◌, ◌≤◌, ◌^◌, ◌↔◌, ℕ, Option, Some, None, true, false, IfSome};
 ghost use Rattle.dn_act.specs.Action.{at_of};
+ghost use Rattle.dn_word.specs.Regions.{segments_at};
 ghost use Rattle.dn_word.specs.Gate.{gate_of};
 ghost use Rattle.dn_word.specs.Need.{quiet_of, raised_of};
 ghost use Rattle.dn_word.specs.declared.packed.place.Ref.{Ref};
@@ -220,7 +221,7 @@ impl ActPhase {
         requires brief { FitsBrief brief.now }
         requires phase { FitsAct brief.now self }
         ensures value { result ≡ action_of brief.now self }
-        ensures within { at_of result < 98304 }
+        ensures within { at_of result < segments_at }
     {
         match self {
             ActPhase::Look => Action::Load {
@@ -300,7 +301,8 @@ impl RoomPhase {
         ensures falls { rank_then result < rank_room self }
         ensures records { records_then result ≤ records_room self }
         ensures full { (counter segments : ℕ) →
-            (result ≡ Then.End (Ending.Full counter segments)) ↔ (room ≡ Room.Full counter segments) }
+            (result ≡ Then.End (Ending.Full counter segments))
+            ↔ (room ≡ Room.Full counter segments) }
     {
         match (self, room) {
             (RoomPhase::Write { raised }, Room::Found) => Then::Seal(SealPhase::Write { raised }),

@@ -94,7 +94,8 @@ fn made_line(
     position: Position,
 ) -> Result<(), OutOfMemory>
     requires { start ≤ length out.old.items }
-    ensures ok { OnOk result (out.new.items ≡ out.old.items ++ made_text session number answer.now position) }
+    ensures ok { OnOk result (out.new.items ≡ out.old.items
+        ++ made_text session number answer.now position) }
     ensures front { KeepsFront start out.old.items out.new.items }
 {
     head(out, start, session, number)?;

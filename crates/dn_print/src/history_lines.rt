@@ -103,7 +103,8 @@ fn receipt_line(
     answered: bool,
 ) -> Result<(), OutOfMemory>
     requires { start ≤ length out.old.items }
-    ensures ok { OnOk result (out.new.items ≡ out.old.items ++ history_line_text receipt.now answered) }
+    ensures ok { OnOk result (out.new.items ≡ out.old.items
+        ++ history_line_text receipt.now answered) }
     ensures front { KeepsFront start out.old.items out.new.items }
 {
     place(out, start, receipt.position, receipt.number)?;
@@ -116,7 +117,8 @@ fn receipt_line(
 /// Where memory is wanting, `out` stays.
 #[tactic(auto, using(crate::proofs::FrontLemmas::taken_back))]
 pub fn history_line(out: &mut Vec<u8>, receipt: &Receipt, answered: bool) -> Result<(), OutOfMemory>
-    ensures ok { OnOk result (out.new.items ≡ out.old.items ++ history_line_text receipt.now answered) }
+    ensures ok { OnOk result (out.new.items ≡ out.old.items
+        ++ history_line_text receipt.now answered) }
     ensures same { OnErr result (out.new.items ≡ out.old.items) }
 {
     let start = out.len();

@@ -135,7 +135,8 @@ impl Head {
 
 /// The header of a record with a value.
 fn valued(kind: u8, bytes: u16) -> Header
-    ensures { result ≡ record { kind = kind; bytes = bytes; cell = 0; words = 2 + words_for bytes } }
+    ensures { result
+        ≡ record { kind = kind; bytes = bytes; cell = 0; words = 2 + words_for bytes } }
 {
     Header {
         kind,

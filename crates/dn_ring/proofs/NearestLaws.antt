@@ -2,8 +2,8 @@ use Rattle.std.proofs.Common.{◌≡◌, ℕ, ◌+◌, ◌*◌, ◌<◌, ◌≤�
 use Rattle.std.proofs.lemmas.Bool.Decides.{nat_tests}
 use Rattle.dn_ring.specs.declared.points.Point.{Point}
 use Rattle.dn_ring.specs.Ring.{point_of, distance}
-use Rattle.dn_ring.specs.Counted.{nth_point, is_before, nearer_of, IsNearest, IsNearestOf}
-use Rattle.dn_ring.proofs.PointLaws.{nth_at}
+use Rattle.dn_ring.specs.Counted.{nth_point, is_before, nearer_of}
+use Rattle.dn_ring.proofs.PointLaws.{nth_at, IsNearest, IsNearestOf}
 
 -- a number is no greater than another, and at an equal one its lane is no higher
 record IsFirst (a b l m : ℕ) : Type 0 where

@@ -1,11 +1,25 @@
-use Rattle.std.proofs.Common.{◌≡◌, ℕ, ◌+◌, ◌*◌, ◌/◌, ◌%◌, ◌^◌, ◌<◌, ◌≤◌, List, [], ◌∷◌, Contains, fold, length, slice_index, sym, ◌∙◌, ap, subst, arith}
+use Rattle.std.proofs.Common.{◌≡◌, ℕ, ◌+◌, ◌*◌, ◌/◌, ◌%◌, ◌^◌, ◌<◌, ◌≤◌, List, [], ◌∷◌, Option, Some, None, Contains, fold, length, slice_index, sym, ◌∙◌, ap, subst, arith}
 use Rattle.std.specs.Int.{w64, to_le_bytes}
 use Rattle.std.proofs.lemmas.Grind.{get_or_default_zero}
 use Rattle.std.proofs.lemmas.List.Elements.{Contains-get_or}
 use Rattle.dn_word.specs.Hash.{hash_step}
 use Rattle.dn_ring.specs.declared.points.Point.{Point}
 use Rattle.dn_ring.specs.Ring.{point_of, distance, IsOwner}
-use Rattle.dn_ring.specs.Counted.{nth_point, IsNearest}
+use Rattle.dn_ring.specs.Counted.{nth_point}
+
+-- the nearest of the first so many points, and of those as near one of the lowest lane
+pub record IsNearest (live : List ℕ) (slot count : ℕ) (p : Point) : Type 0 where
+  pub number : ℕ
+  pub counted : number < count
+  pub same : p ≡ nth_point live number
+  pub nearest : (n : ℕ) → n < count → distance slot p.at ≤ distance slot (nth_point live n).at
+  pub lowest : (n : ℕ) → n < count → distance slot p.at ≡ distance slot (nth_point live n).at
+      → p.lane ≤ (nth_point live n).lane
+
+-- the nearest of the first so many points, or none where there are none
+abbrev pub IsNearestOf : List ℕ → ℕ → ℕ → Option Point → Type 0
+IsNearestOf live slot count None = count ≡ 0
+IsNearestOf live slot count (Some p) = IsNearest live slot count p
 
 folded : (h : ℕ) (bytes : List ℕ) → h < 2 ^ 64 → fold hash_step h bytes < 2 ^ 64
 folded h [] lt = lt

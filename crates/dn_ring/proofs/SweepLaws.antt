@@ -6,8 +6,8 @@ use Rattle.std.specs.Option.{option_map_or}
 use Rattle.std.proofs.lemmas.Bool.Decides.{nat_tests}
 use Rattle.dn_ring.specs.declared.points.Point.{Point}
 use Rattle.dn_ring.specs.Ring.{point_of, distance, IsOwner}
-use Rattle.dn_ring.specs.Counted.{nth_point, arc_of, IsLower, IsNearest, IsLowest, IsFirstOf, AreFirsts}
-use Rattle.dn_ring.proofs.PointLaws.{point_below, numbered, nearest_owns, IsNumbered}
+use Rattle.dn_ring.specs.Counted.{nth_point, arc_of, IsLower, IsLowest, IsFirstOf, AreFirsts}
+use Rattle.dn_ring.proofs.PointLaws.{point_below, numbered, nearest_owns, IsNearest, IsNumbered}
 
 near_split : (slot a b : ℕ) → slot < 64 → a < 2 ^ 64 → b < 2 ^ 64 → a / 2 ^ 58 ≡ slot → (b / 2 ^ 58 ≡ slot → a ≤ b)
     → (b / 2 ^ 58 ≡ slot) ⊎ (b / 2 ^ 58 ≢ slot) → distance slot a ≤ distance slot b

@@ -51,17 +51,3 @@ is_before slot p q = nat_lt (distance slot p.at) (distance slot q.at)
 abbrev pub nearer_of : ℕ → Option Point → Point → Point
 nearer_of slot None p = p
 nearer_of slot (Some q) p = if is_before slot p q then p else q
-
--- the nearest of the first so many points, and of those as near one of the lowest lane
-pub record IsNearest (live : List ℕ) (slot count : ℕ) (p : Point) : Type 0 where
-  pub number : ℕ
-  pub counted : number < count
-  pub same : p ≡ nth_point live number
-  pub nearest : (n : ℕ) → n < count → distance slot p.at ≤ distance slot (nth_point live n).at
-  pub lowest : (n : ℕ) → n < count → distance slot p.at ≡ distance slot (nth_point live n).at
-      → p.lane ≤ (nth_point live n).lane
-
--- the nearest of the first so many points, or none where there are none
-abbrev pub IsNearestOf : List ℕ → ℕ → ℕ → Option Point → Type 0
-IsNearestOf live slot count None = count ≡ 0
-IsNearestOf live slot count (Some p) = IsNearest live slot count p

@@ -39,9 +39,6 @@ one_part p xs (Some i) e = tt
 
 -- ---- digits
 
-step : ℕ → ℕ → ℕ
-step number digit = 10 * number + (digit - 48)
-
 pub number_grows : (value : ℕ) (digits : List ℕ) → value ≤ fold (λ number digit. 10 * number + (digit - 48)) value digits
 number_grows value [] = omega arith
 number_grows value (d ∷ ds) = omega (arith, number_grows (10 * value + (d - 48)) ds)

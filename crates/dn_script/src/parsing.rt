@@ -1,6 +1,6 @@
 ghost use Rattle.std.specs.Prelude.{◌≡◌, ◌<◌, ◌≤◌, ◌+◌, ◌-◌, ◌^◌, ℕ, Ok, Some, IfOk, IfErr, All, min, nat_eq, nat_lt, length, count_by, slice_index};
 ghost use Rattle.std.specs.List.{slice_split};
-ghost use Rattle.dn_script.specs.Fit.{IsIn, IsLine};
+ghost use Rattle.dn_script.specs.Fit.{IsLine, IsScript};
 ghost use Rattle.dn_script.specs.Played.{IsPlayed};
 ghost use Rattle.dn_script.specs.Script.{script_of, played, draft_in, with_meaning, rules_of, is_whole, line_count};
 ghost use Rattle.dn_script.specs.Sentence.{line_meaning};
@@ -69,11 +69,7 @@ pub fn parse_with(
     ensures script { IfOk result (λ script.
         script_of verbs.now mode segments bytes.now ≡ Ok script) }
     ensures count { IfOk result (λ script. line_count bytes.now ≤ 1000000) }
-    ensures fit { IfOk result (λ script. All IsLine script.lines) }
-    ensures few { IfOk result (λ script. length script.lines ≤ length bytes.now) }
-    ensures segments { IfOk result (λ script. 1 ≤ segments → IsIn 1 segments script.segments) }
-    ensures nodes { IfOk result (λ script. IsIn 1 63 script.nodes) }
-    ensures units { IfOk result (λ script. IsIn 0 1000000 script.units) }
+    ensures fits { IfOk result (λ script. IsScript segments (length bytes.now) script) }
     ensures bad { IfErr result (IsParseFault verbs.now mode segments bytes.now) }
 {
     read_script(alloc, bytes, mode, segments, verbs)

@@ -2,6 +2,7 @@
 
 ghost use Rattle.std.specs.Prelude.{◌≡◌, ◌≢◌, ◌<◌, ◌≤◌, ◌^◌, ◌↔◌, ℕ, true, false};
 ghost use Rattle.dn_act.specs.Action.{at_of};
+ghost use Rattle.dn_word.specs.Regions.{segments_at};
 ghost use Rattle.dn_plan.specs.Plan.{is_owner};
 ghost use Rattle.dn_tend.specs.Tend.{given_up, opening_word, cell_in, closed_word, action_in, acts, rooms, seals, ends, goes, learns, left, looked, exchanged, barred, shares, share_stamp, share_gated, unshare_gated, counted, unshare_stamp, unshare_seal, closes, cell_met, taken_in};
 ghost use Rattle.std.specs.Option.{ForSome};
@@ -321,7 +322,7 @@ impl TendAct {
         requires lane { lane < 64 }
         requires phase { FitsAct lane self }
         ensures value { result ≡ action_in lane self }
-        ensures within { at_of result < 98304 }
+        ensures within { at_of result < segments_at }
     {
         match self {
             TendAct::Deed { slot } => Action::Load { at: deed_at(slot) },

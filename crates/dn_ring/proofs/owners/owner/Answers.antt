@@ -1,7 +1,7 @@
 use Rattle.std.proofs.Common.{◌≡◌, ◌+◌, ◌*◌, length, subst, sym, refl, Option, Some, arith}
 use Rattle.dn_ring.specs.declared.points.Point.{Point}
-use Rattle.dn_ring.specs.Counted.{nearer_of, IsNearestOf, IsNearest}
-use Rattle.dn_ring.proofs.PointLaws.{nearest_owns}
+use Rattle.dn_ring.specs.Counted.{nearer_of}
+use Rattle.dn_ring.proofs.PointLaws.{nearest_owns, IsNearest, IsNearestOf}
 use Rattle.dn_ring.proofs.NearestLaws.{nearest_more}
 use Rattle.dn_ring.proofs.owners.owner.Goals as goal
 

@@ -1,5 +1,5 @@
 use Rattle.std.proofs.Common.{◌≡◌, ◌+◌, ◌*◌, slice_index}
-use Rattle.dn_ring.specs.Counted.{IsNearestOf}
+use Rattle.dn_ring.proofs.PointLaws.{IsNearestOf}
 use Rattle.dn_ring.proofs.owners.owner.Given as goal
 
 -- the nearest of the points so far
