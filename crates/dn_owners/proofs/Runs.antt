@@ -1,9 +1,9 @@
-use Rattle.std.proofs.Common.{ℕ, ◌<◌, ◌≤◌, ◌≡◌, inl, inr, true, false, nat_eq, List, [], ◌∷◌, ◌++◌, Contains, Option, Some, None, refl, sym, ◌∙◌, ap, subst, arith}
+use Rattle.std.proofs.Common.{ℕ, ◌<◌, ◌≤◌, ◌≡◌, inl, inr, true, false, List, [], ◌∷◌, ◌++◌, Contains, Some, None, refl, sym, ◌∙◌, ap, arith}
+use Rattle.std.proofs.lemmas.Bool.{false≢true}
 use Rattle.std.proofs.lemmas.Bool.Decides.{nat_tests}
 use Rattle.dn_word.specs.Ref.{ref_of, ref_word}
 use Rattle.dn_word.specs.Gate.{gate_of}
 use Rattle.dn_word.specs.declared.packed.gate.Gate.{Gate}
-use Rattle.dn_word.specs.declared.packed.deed.DeedState.{DeedState}
 use Rattle.dn_word.specs.declared.packed.deed.DeedState.TheVariants.{Nobody, Owned, Leaving, Released}
 use Rattle.dn_record.specs.declared.records.Record.{Record}
 use Rattle.dn_record.specs.declared.records.Record.TheVariants.{Put}
@@ -13,12 +13,12 @@ use Rattle.dn_model.specs.Held.{Says, is_authority, unmerged, record_at}
 use Rattle.dn_store.specs.State.{with_at}
 use Rattle.dn_store.specs.Holding.{owner_in, holds}
 use Rattle.dn_store.proofs.At.{at_by}
-use Rattle.dn_owners.specs.Known.{Look, Owners}
+use Rattle.dn_owners.specs.Known.{Owners}
 use Rattle.dn_owners.specs.Sound.{IsOrdered, IsSound, Rise}
 use Rattle.dn_owners.specs.Events.{Event, happens}
 use Rattle.dn_owners.specs.Runs.{IsRun, after}
-use Rattle.dn_owners.specs.Moving.{opened, first_put, moving}
-use Rattle.dn_owners.specs.Given.{At_gate, IsFollowed}
+use Rattle.dn_owners.specs.Moving.{opened, first_put, putting, merging, leaving, released, its_gate, loading, granting, moving}
+use Rattle.dn_owners.specs.Given.{At_gate}
 use Rattle.dn_owners.proofs.Ats.{at_three, none_some, same_some}
 use Rattle.dn_owners.proofs.Last.{last_found}
 use Rattle.dn_owners.proofs.Logs.{nil_has, head_has, cons_cases}
@@ -201,3 +201,20 @@ moving_owner pool = refl
 
 pub moving_held : (pool : ℕ) → holds (after (opened pool) moving).store 5 ≡ Says (Some (97 ∷ []))
 moving_held pool = refl
+
+-- ---- with one thing left out
+pub unmerged_wrong : (pool : ℕ) → IsSound (after (opened pool) (putting ++ leaving ++ released ++ loading ++ granting 2 1)) → ⊥
+unmerged_wrong pool h =
+    let e : 2 ≡ 1 = h.one.each 1 5 first_put (head_has first_put []) (omega arith) refl in
+    omega (arith, e)
+
+pub forgetful_wrong : (pool : ℕ) → IsSound (after (opened pool) (putting ++ merging ++ leaving ++ released ++ loading ++ granting 2 0)) → ⊥
+forgetful_wrong pool h =
+    let e : 1 ≤ 0 = h.stamps.each 5 in
+    omega (arith, e)
+
+not_released : Leaving ≡ Released → ⊥
+not_released e = absurd (cc e)
+
+pub early_wrong : (pool : ℕ) → IsSound (after (opened pool) (putting ++ merging ++ leaving ++ loading)) → ⊥
+early_wrong pool h = elim ((h.watched its_gate refl).past) [ inl e ↦ not_released e | inr e ↦ false≢true e ]

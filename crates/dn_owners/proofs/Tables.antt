@@ -9,7 +9,7 @@ use Rattle.dn_record.specs.declared.records.Record.TheVariants.{Put, Delete, Sha
 use Rattle.dn_model.specs.Regions.{slot_of}
 use Rattle.dn_model.specs.OneLog.{is_plain}
 use Rattle.dn_model.specs.declared.logs.Placed.{Placed}
-use Rattle.dn_model.specs.Held.{Found, Says, Astray, is_authority, unmerged, record_at, holder_at, holder_by, holder_from, value_in, held_by, held_from, named, cell_word}
+use Rattle.dn_model.specs.Held.{Found, Says, Astray, is_authority, unmerged, record_at, holder_at, holder_from, value_in, held_by, held_from, named, cell_word}
 use Rattle.dn_store.specs.State.{with_at}
 use Rattle.dn_store.specs.Holding.{owner_in, authority_in}
 use Rattle.dn_store.proofs.At.{at_same, at_by}

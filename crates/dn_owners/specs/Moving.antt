@@ -3,7 +3,7 @@ use Rattle.dn_word.specs.Ref.{ref_word}
 use Rattle.dn_word.specs.declared.packed.deed.DeedState.TheVariants.{Owned, Leaving, Released}
 use Rattle.dn_record.specs.declared.records.Record.TheVariants.{Put}
 use Rattle.dn_model.specs.declared.logs.Placed.{Placed}
-use Rattle.dn_owners.specs.Known.{Owners}
+use Rattle.dn_owners.specs.Known.{Watch, Owners}
 use Rattle.dn_owners.specs.Fresh.{fresh_owners}
 use Rattle.dn_owners.specs.Events.{Event, Look_new, End, Seal, Promise, Trim, Set, Pass, Leave, Release, Watches, Grant}
 
@@ -39,13 +39,19 @@ leaving = Leave 3 (record { state = Leaving; epoch = 1; lane = 1; floor = 0 }) �
 abbrev pub released : List Event
 released = Release 3 (record { state = Released; epoch = 1; lane = 1; floor = 0 }) ∷ []
 
+-- the gate of lane 1 is loaded
+abbrev pub its_gate : Watch
+its_gate = record { slot = 3; lane = 1; len = 3; stamp = 1 }
+
+abbrev pub loading : List Event
+loading = Watches its_gate ∷ []
+
 -- the grant to lane 2, with this epoch and this floor; and lane 2 looks
 abbrev pub granting : ℕ → ℕ → List Event
 granting epoch floor =
-    Watches (record { slot = 3; lane = 1; len = 3; stamp = 1 })
-    ∷ Grant (record { slot = 3; lane = 1; len = 3; stamp = 1 }) (record { state = Owned; epoch = epoch; lane = 2; floor = floor })
+    Grant its_gate (record { state = Owned; epoch = epoch; lane = 2; floor = floor })
     ∷ Look_new 2 (record { slot = 3; epoch = epoch; floor = floor })
     ∷ []
 
 abbrev pub moving : List Event
-moving = putting ++ merging ++ leaving ++ released ++ granting 2 1
+moving = putting ++ merging ++ leaving ++ released ++ loading ++ granting 2 1

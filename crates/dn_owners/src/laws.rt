@@ -20,7 +20,7 @@ ghost use Rattle.dn_owners.specs.Later.{IsLater, AuthorityAfter, HeldAfter};
 ghost use Rattle.dn_owners.specs.Merging.{IsWaiting, IndexAfter, IsRecordOf};
 ghost use Rattle.dn_owners.specs.Fresh.{fresh_owners};
 ghost use Rattle.dn_owners.specs.Runs.{IsRun, after};
-ghost use Rattle.dn_owners.specs.Moving.{opened, putting, merging, leaving, released, granting, moving};
+ghost use Rattle.dn_owners.specs.Moving.{opened, putting, merging, leaving, released, loading, granting, moving};
 
 /// The owners that an opening for 1 to 63 lanes leaves are sound; and a store that words represent has logs in order.
 pub fn opening()
@@ -35,11 +35,23 @@ pub fn opening()
 /// Then the put is still what is held, and lane 2 owns the key.
 pub fn run()
     ensures given { (pool : ℕ) → IsRun (opened pool)
-        (putting ++ merging ++ leaving ++ released ++ granting 2 1) }
+        (putting ++ merging ++ leaving ++ released ++ loading ++ granting 2 1) }
     ensures sound { (pool : ℕ) → IsSound (after (opened pool) moving) }
     ensures owner { (pool : ℕ) → owner_in (after (opened pool) moving).store 5 ≡ 2 }
     ensures held { (pool : ℕ) → holds (after (opened pool) moving).store 5 ≡ Says (Some (97 ∷ [])) }
     ensures runs { (o : Owners) (es : List Event) → IsSound o → IsRun o es → IsSound (after o es) }
+{}
+
+/// The same run with one thing left out, and the state to which it leads isn't sound: the log isn't merged before the
+/// grant; the floor forgets the stamp of the gate; the gate is loaded while the slot is Leaving. So the parts say
+/// something, and these premises are needed.
+pub fn wrong_runs()
+    ensures unmerged { (pool : ℕ) → IsSound (after (opened pool)
+        (putting ++ leaving ++ released ++ loading ++ granting 2 1)) → ⊥ }
+    ensures forgetful { (pool : ℕ) → IsSound (after (opened pool)
+        (putting ++ merging ++ leaving ++ released ++ loading ++ granting 2 0)) → ⊥ }
+    ensures early { (pool : ℕ) → IsSound (after (opened pool)
+        (putting ++ merging ++ leaving ++ loading)) → ⊥ }
 {}
 
 /// Each event keeps every part; logs, gates, marks, epochs, floors and promised stamps only grow.
