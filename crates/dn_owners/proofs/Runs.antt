@@ -1,4 +1,4 @@
-use Rattle.std.proofs.Common.{ℕ, ◌<◌, ◌≤◌, ◌≡◌, inl, inr, true, false, List, [], ◌∷◌, ◌++◌, Contains, Some, None, refl, sym, ◌∙◌, ap, arith}
+use Rattle.std.proofs.Common.{ℕ, ◌<◌, ◌≤◌, ◌≡◌, inl, inr, true, false, List, [], ◌∷◌, ◌++◌, Contains, Option, Some, None, refl, sym, ◌∙◌, ap, arith}
 use Rattle.std.proofs.lemmas.Bool.{false≢true}
 use Rattle.std.proofs.lemmas.Bool.Decides.{nat_tests}
 use Rattle.dn_word.specs.Ref.{ref_of, ref_word}
@@ -9,7 +9,7 @@ use Rattle.dn_record.specs.declared.records.Record.{Record}
 use Rattle.dn_record.specs.declared.records.Record.TheVariants.{Put}
 use Rattle.dn_model.specs.Regions.{slot_of}
 use Rattle.dn_model.specs.declared.logs.Placed.{Placed}
-use Rattle.dn_model.specs.Held.{Says, is_authority, unmerged, record_at}
+use Rattle.dn_model.specs.Held.{Found, Says, is_authority, unmerged, record_at}
 use Rattle.dn_store.specs.State.{with_at}
 use Rattle.dn_store.specs.Holding.{owner_in, holds}
 use Rattle.dn_store.proofs.At.{at_by}
@@ -17,7 +17,7 @@ use Rattle.dn_owners.specs.Known.{Owners}
 use Rattle.dn_owners.specs.Sound.{IsOrdered, IsSound, Rise}
 use Rattle.dn_owners.specs.Events.{Event, happens}
 use Rattle.dn_owners.specs.Runs.{IsRun, after}
-use Rattle.dn_owners.specs.Moving.{opened, first_put, putting, merging, leaving, released, its_gate, loading, granting, moving}
+use Rattle.dn_owners.specs.Moving.{opened, first_put, putting, merging, leaving, released, its_gate, loading, granting, returning, moving}
 use Rattle.dn_owners.specs.Given.{At_gate}
 use Rattle.dn_owners.proofs.Ats.{at_three, none_some, same_some}
 use Rattle.dn_owners.proofs.Last.{last_found}
@@ -218,3 +218,19 @@ not_released e = absurd (cc e)
 
 pub early_wrong : (pool : ℕ) → IsSound (after (opened pool) (putting ++ merging ++ leaving ++ loading)) → ⊥
 early_wrong pool h = elim ((h.watched its_gate refl).past) [ inl e ↦ not_released e | inr e ↦ false≢true e ]
+
+not_other : (let x : Found (Option Record) = Says (Some (Put 5 (98 ∷ []))) in x) ≡ Says (Some (Put 5 (97 ∷ []))) → ⊥
+not_other e = (let f : 98 ≡ 97 = ap byte e in omega (arith, f)) where
+  byte : Found (Option Record) → ℕ
+  byte (Says (Some (Put key (x ∷ xs)))) = x
+  byte f = 0
+
+not_none : (let x : Found (Option Record) = Says (Some (Put 5 (98 ∷ []))) in x) ≡ Says None → ⊥
+not_none e = absurd (cc e)
+
+-- lane 1 takes its first put, of which it has learnt the epoch, for the key's authority
+pub same_epoch_wrong : (pool : ℕ) → IsSound (after (opened pool) (putting ++ merging ++ leaving ++ released ++ loading ++ granting 1 1 ++ returning 1)) → ⊥
+same_epoch_wrong pool h = elim ((h.told 1).each 5 (record { epoch = 1; from = 0 }) (Put 5 (97 ∷ [])) (record { is_running = refl; unfenced = refl; names = refl }) refl refl refl) [
+  | inl e ↦ not_other e
+  | inr e ↦ not_none e.0
+]

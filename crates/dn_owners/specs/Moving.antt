@@ -55,3 +55,19 @@ granting epoch floor =
 
 abbrev pub moving : List Event
 moving = putting ++ merging ++ leaving ++ released ++ loading ++ granting 2 1
+
+-- Lane 2 puts and is merged, and the slot goes back to lane 1, in this epoch.
+abbrev pub later_put : Placed
+later_put = record { offset = 0; entry = Put 5 (98 ∷ []) }
+
+abbrev pub returning : ℕ → List Event
+returning epoch =
+    Seal 2 (record { fenced = false; stamp = 2; len = 3 }) (later_put ∷ [])
+    ∷ End 2
+    ∷ Set 2 5 later_put (Some (ref_word (record { lane = 2; offset = 0 })))
+    ∷ Pass 2 3 later_put
+    ∷ Leave 3 (record { state = Leaving; epoch = 1; lane = 2; floor = 1 })
+    ∷ Release 3 (record { state = Released; epoch = 1; lane = 2; floor = 1 })
+    ∷ Watches (record { slot = 3; lane = 2; len = 3; stamp = 2 })
+    ∷ Grant (record { slot = 3; lane = 2; len = 3; stamp = 2 }) (record { state = Owned; epoch = epoch; lane = 1; floor = 2 })
+    ∷ []

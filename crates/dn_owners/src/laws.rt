@@ -20,7 +20,7 @@ ghost use Rattle.dn_owners.specs.Later.{IsLater, AuthorityAfter, HeldAfter};
 ghost use Rattle.dn_owners.specs.Merging.{IsWaiting, IndexAfter, IsRecordOf};
 ghost use Rattle.dn_owners.specs.Fresh.{fresh_owners};
 ghost use Rattle.dn_owners.specs.Runs.{IsRun, after};
-ghost use Rattle.dn_owners.specs.Moving.{opened, putting, merging, leaving, released, loading, granting, moving};
+ghost use Rattle.dn_owners.specs.Moving.{opened, putting, merging, leaving, released, loading, granting, returning, moving};
 
 /// The owners that an opening for 1 to 63 lanes leaves are sound; and a store that words represent has logs in order.
 pub fn opening()
@@ -43,8 +43,8 @@ pub fn run()
 {}
 
 /// The same run with one thing left out, and the state to which it leads isn't sound: the log isn't merged before the
-/// grant; the floor forgets the stamp of the gate; the gate is loaded while the slot is Leaving. So the parts say
-/// something, and these premises are needed.
+/// grant; the floor forgets the stamp of the gate; the gate is loaded while the slot is Leaving; the slot goes and comes
+/// back in one epoch. So the parts say something, and these premises are needed.
 pub fn wrong_runs()
     ensures unmerged { (pool : ℕ) → IsSound (after (opened pool)
         (putting ++ leaving ++ released ++ loading ++ granting 2 1)) → ⊥ }
@@ -52,6 +52,8 @@ pub fn wrong_runs()
         (putting ++ merging ++ leaving ++ released ++ loading ++ granting 2 0)) → ⊥ }
     ensures early { (pool : ℕ) → IsSound (after (opened pool)
         (putting ++ merging ++ leaving ++ loading)) → ⊥ }
+    ensures same_epoch { (pool : ℕ) → IsSound (after (opened pool)
+        (putting ++ merging ++ leaving ++ released ++ loading ++ granting 1 1 ++ returning 1)) → ⊥ }
 {}
 
 /// Each event keeps every part; logs, gates, marks, epochs, floors and promised stamps only grow.
