@@ -1,4 +1,4 @@
-use Rattle.std.proofs.Common.{ℕ, ◌<◌, ◌≡◌, ◌≢◌, inl, inr, true, List, Option, Some, None, refl, sym, ◌∙◌, ap, subst, arith}
+use Rattle.std.proofs.Common.{ℕ, ◌<◌, ◌≡◌, ◌≢◌, inl, inr, Bool, true, false, if◌then◌else◌, List, [], ◌∷◌, Option, Some, None, refl, sym, ◌∙◌, ap, subst, arith}
 use Rattle.std.proofs.lemmas.Grind.{common_steps}
 use Rattle.std.proofs.lemmas.Bool.{false≢true, cases_eq}
 use Rattle.std.specs.FinMap.{get, insert, remove, gets}
@@ -7,11 +7,13 @@ use Rattle.dn_word.specs.declared.packed.place.Ref.{Ref}
 use Rattle.dn_hist.specs.Calls.{Bytes}
 use Rattle.dn_record.specs.declared.records.Record.{Record}
 use Rattle.dn_record.specs.declared.records.Record.TheVariants.{Put, Delete, Share, Unshare, Loose, LooseDelete, Pad}
-use Rattle.dn_model.specs.Regions.{cell}
+use Rattle.dn_model.specs.Regions.{mark, owner, cell, home_of}
 use Rattle.dn_model.specs.Log.{Placed}
-use Rattle.dn_model.specs.Held.{Reads, Says, is_authority, authority, holder, holder_by, holder_from, held, named, cell_word}
+use Rattle.dn_model.specs.Index.{index}
+use Rattle.dn_model.specs.Held.{Found, Reads, Says, Astray, is_authority, is_holder, unmerged, record_at, led_to, authority_by, authority, holder, holder_at, holder_by, holder_from, held, named, cell_word}
 use Rattle.dn_model.specs.PoolMap.{HoldsMap}
 use Rattle.dn_model.specs.OneLog.{is_plain}
+use Rattle.dn_model.proofs.HeldLaws.{Each, unmerged_is}
 use Rattle.dn_model.proofs.MapLaws.{one_held}
 
 -- The map changes where what is held changes.
@@ -86,3 +88,65 @@ shared_holder words logs chains k j opening e = ap (λ x. holder_from (cell word
 
 pub unshared_holder : (words : List ℕ) (logs : ℕ → List Placed) (chains : ℕ → List ℕ) (k : ℕ) (at : Option Ref) → authority words logs chains k ≡ Says (Some (Unshare k at)) → holder words logs chains k ≡ named logs k at
 unshared_holder words logs chains k at e = ap (λ x. holder_from (cell words) logs k x) e
+
+-- ---- and what it is
+by_test : (r : Record) (b : Bool) → b ≡ true → (if b then Says (Some r) else Astray) ≡ Says (Some r)
+by_test r true e = refl
+by_test r false e = absurd (false≢true e)
+
+pub named_holder : (logs : ℕ → List Placed) (k : ℕ) (at : Ref) (r : Record) → record_at logs (Some at) ≡ Some r → is_holder k r ≡ true → named logs k (Some at) ≡ Says (Some r)
+named_holder logs k at r e h = ap (holder_at k) e ∙ by_test r (is_holder k r) h
+
+same_found : (a b : Record) → (let x : Found (Option Record) = Says (Some a) in x) ≡ Says (Some b) → a ≡ b
+same_found a b e = cc
+
+none_found : (b : Record) → (let x : Found (Option Record) = Says None in x) ≡ Says (Some b) → ⊥
+none_found b e = absurd (cc e)
+
+lost_found : (b : Record) → (let x : Found (Option Record) = Astray in x) ≡ Says (Some b) → ⊥
+lost_found b e = absurd (cc e)
+
+tested : (k : ℕ) (a r : Record) (b : Bool) → is_holder k a ≡ b → (if b then Says (Some a) else Astray) ≡ Says (Some r) → is_holder k r ≡ true
+tested k a r true t e = ap (is_holder k) (sym (same_found a r e)) ∙ t
+tested k a r false t e = absurd (lost_found r e)
+
+at_its : (k : ℕ) (o : Option Record) (r : Record) → holder_at k o ≡ Says (Some r) → is_holder k r ≡ true
+at_its k None r e = absurd (lost_found r e)
+at_its k (Some a) r e = tested k a r (is_holder k a) refl e
+
+named_its : (logs : ℕ → List Placed) (k : ℕ) (at : Option Ref) (r : Record) → named logs k at ≡ Says (Some r) → is_holder k r ≡ true
+named_its logs k None r e = absurd (none_found r e)
+named_its logs k (Some at) r e = at_its k (record_at logs (Some at)) r e
+
+by_its : (cells : ℕ → ℕ) (logs : ℕ → List Placed) (k : ℕ) (a r : Record) → is_authority k a ≡ true → holder_by cells logs k a ≡ Says (Some r) → is_holder k r ≡ true
+by_its cells logs k (Put key value) r t e = ap (is_holder k) (sym (same_found (Put key value) r e)) ∙ t
+by_its cells logs k (Delete key) r t e = ap (is_holder k) (sym (same_found (Delete key) r e)) ∙ t
+by_its cells logs k (Share key j opening) r t e = named_its logs k (ref_of (cell_word opening (cells j))) r e
+by_its cells logs k (Unshare key at) r t e = named_its logs k at r e
+by_its cells logs k (Loose key value) r t e = absurd (lost_found r e)
+by_its cells logs k (LooseDelete key) r t e = absurd (lost_found r e)
+by_its cells logs k (Pad n) r t e = absurd (lost_found r e)
+
+led_its : (cells : ℕ → ℕ) (logs : ℕ → List Placed) (k : ℕ) (a r : Record) (b : Bool) → is_authority k a ≡ b → holder_from cells logs k (if b then Says (Some a) else Astray) ≡ Says (Some r) → is_holder k r ≡ true
+led_its cells logs k a r true t e = by_its cells logs k a r t e
+led_its cells logs k a r false t e = absurd (lost_found r e)
+
+led_to_its : (cells : ℕ → ℕ) (logs : ℕ → List Placed) (k : ℕ) (o : Option Record) (r : Record) → holder_from cells logs k (led_to k o) ≡ Says (Some r) → is_holder k r ≡ true
+led_to_its cells logs k None r e = absurd (lost_found r e)
+led_to_its cells logs k (Some a) r e = led_its cells logs k a r (is_authority k a) refl e
+
+from_its : (cells : ℕ → ℕ) (logs : ℕ → List Placed) (k : ℕ) (u : Option Record) (p : Option ℕ) (r : Record) → ((a : Record) → u ≡ Some a → is_authority k a ≡ true) → holder_from cells logs k (authority_by logs k u p) ≡ Says (Some r)
+    → is_holder k r ≡ true
+from_its cells logs k (Some a) p r h e = by_its cells logs k a r (h a refl) e
+from_its cells logs k None None r h e = absurd (none_found r e)
+from_its cells logs k None (Some word) r h e = led_to_its cells logs k (record_at logs (ref_of word)) r e
+
+each_own : (k : ℕ) (log : List Placed) → Each (λ p. is_authority k p.entry ≡ true → is_authority k p.entry ≡ true) log
+each_own k [] = tt
+each_own k (p ∷ ps) = (λ a. a, each_own k ps)
+
+pub its_holder : (words : List ℕ) (logs : ℕ → List Placed) (chains : ℕ → List ℕ) (k : ℕ) (r : Record) → holder words logs chains k ≡ Says (Some r) → is_holder k r ≡ true
+its_holder words logs chains k r e =
+    let n : ℕ = owner words k in
+    from_its (cell words) logs k (unmerged k (mark words n) (logs n)) (index words (chains (home_of k)) k) r
+    (unmerged_is (λ a. is_authority k a ≡ true) k (mark words n) (logs n) (each_own k (logs n))) e

@@ -11,7 +11,7 @@ ghost use Rattle.dn_record.specs.declared.records.Record.TheVariants.{Share, Uns
 ghost use Rattle.dn_model.specs.Regions.{gate, gate_at, cell, offsets};
 ghost use Rattle.dn_model.specs.Log.{Placed, IsLog, Tiles, IsCovered};
 ghost use Rattle.dn_model.specs.Same.{SameLog, SamePool};
-ghost use Rattle.dn_model.specs.Held.{Says, Reads, is_authority, authority, holder, held, value_in, named, cell_word};
+ghost use Rattle.dn_model.specs.Held.{Says, Reads, is_authority, is_holder, authority, record_at, holder, held, value_in, named, cell_word};
 ghost use Rattle.dn_model.specs.PoolMap.{HoldsMap};
 ghost use Rattle.dn_model.specs.OneLog.{IsOneLog, is_plain, left_in};
 ghost use Rattle.std.specs.FinMap.{get, insert, remove};
@@ -52,7 +52,8 @@ pub fn changes()
 {}
 
 /// What is held at a key is the value of the record that holds it: of a put or delete as the authority itself; of a Share
-/// the one that its cell names, or while that is 0 its opening; of an Unshare the one that it names.
+/// the one that its cell names, or while that is 0 its opening; of an Unshare the one that it names. It is a record of the
+/// key that has a value or says that there is none.
 pub fn holders()
     ensures held { (words : List ℕ) (logs : ℕ → List Placed) (chains : ℕ → List ℕ) (k : ℕ)
         → held words logs chains k ≡ value_in (holder words logs chains k) }
@@ -66,6 +67,11 @@ pub fn holders()
     ensures unshared { (words : List ℕ) (logs : ℕ → List Placed) (chains : ℕ → List ℕ) (k : ℕ)
         (at : Option Ref) → authority words logs chains k ≡ Says (Some (Unshare k at))
         → holder words logs chains k ≡ named logs k at }
+    ensures named { (logs : ℕ → List Placed) (k : ℕ) (at : Ref) (r : Record)
+        → record_at logs (Some at) ≡ Some r → is_holder k r ≡ true
+        → named logs k (Some at) ≡ Says (Some r) }
+    ensures its { (words : List ℕ) (logs : ℕ → List Placed) (chains : ℕ → List ℕ) (k : ℕ)
+        (r : Record) → holder words logs chains k ≡ Says (Some r) → is_holder k r ≡ true }
 {}
 
 /// A gate with a greater length seals the records that stand up to there.

@@ -1,5 +1,5 @@
 use Rattle.std.proofs.Common.{refl}
-use Rattle.dn_model.proofs.ChangeLaws.{own_holder, shared_holder, unshared_holder}
+use Rattle.dn_model.proofs.ChangeLaws.{own_holder, shared_holder, unshared_holder, named_holder, its_holder}
 use Rattle.dn_model.proofs.laws.pools.holders.Goals as goal
 
 pub returns-clause-held : goal.returns-clause-held
@@ -13,3 +13,9 @@ returns-clause-shared c = shared_holder
 
 pub returns-clause-unshared : goal.returns-clause-unshared
 returns-clause-unshared c = unshared_holder
+
+pub returns-clause-named : goal.returns-clause-named
+returns-clause-named c = named_holder
+
+pub returns-clause-its : goal.returns-clause-its
+returns-clause-its c = its_holder
