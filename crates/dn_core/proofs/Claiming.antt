@@ -1,4 +1,4 @@
-use Rattle.std.proofs.Common.{ℕ, ◌≡◌, ◌<◌, ◌≤◌, ◌+◌, ◌%◌, ◌^◌, Bool, true, false, nat_lt, if◌then◌else◌, List, [], ◌∷◌, All, Some, None, length, slice_set, slice_index, refl, ap, sym, ◌∙◌, subst, arith, lit<}
+use Rattle.std.proofs.Common.{ℕ, ◌≡◌, ◌<◌, ◌≤◌, ◌+◌, ◌%◌, ◌^◌, Bool, true, false, nat_lt, if◌then◌else◌, List, [], ◌∷◌, All, Some, None, length, slice_set, slice_index, inl, refl, ap, sym, ◌∙◌, subst, arith, lit<}
 use Rattle.std.proofs.lemmas.Bool.{ltb-true, ltb-false}
 use Rattle.std.proofs.lemmas.List.{length-append, get_or_append_left, set-get_or}
 use Rattle.std.proofs.lemmas.List.Elements.{All-append, All-nil, All-cons}
@@ -125,7 +125,7 @@ spare_directory words log g alone d =
 spare_standing : (words : List ℕ) (log : Log) (sealed : List Sealed) (placed : List Placed) (rs : List Receipt) (g : ℕ) → g ≡ word_at words 1 → log.spare ≡ None → length log.segments < 256 → g < log.pool
     → IsStanding words log sealed placed rs → IsStanding (slice_set words 1 (g + 1)) (record log { spare = Some g }) sealed placed rs
 spare_standing words log sealed placed rs g e none few lt s =
-    standing_kept words (slice_set words 1 (g + 1)) log (Some g) sealed placed rs (counter_stored words 1 (g + 1) (lit< tt)) (word_at-set_other words 1 0 (g + 1) (λ x. absurd (omega (arith, x))))
+    standing_kept words 1 (g + 1) log (Some g) sealed placed rs (counter_stored words 1 (g + 1) (lit< tt)) (λ x. absurd (omega (arith, x))) (inl (lit< tt))
     (spare_space words log g e (reach_alone log none) few lt s.space) (spare_directory words log g (reach_alone log none) s.directory) s
 
 -- and the record's words are staged
@@ -161,7 +161,7 @@ taken_by words log sealed fetch k placed rs located gate to segments s t a false
 taken_by words log sealed fetch k placed rs located gate to segments s t a true e =
     claim_got words (slice_set words 1 (word_at words 1 + 1)) log sealed fetch k placed rs located gate to segments (word_at words 1)
     (spare_standing words log sealed placed rs (word_at words 1) refl a.claims.2 a.claims.1 a.has s)
-    (gate_stays words (slice_set words 1 (word_at words 1 + 1)) log.lane placed (counter_stored words 1 (word_at words 1 + 1) (lit< tt)) s.one) t a
+    (gate_stays words 1 (word_at words 1 + 1) log.lane s.one.lane.below (inl (lit< tt))) t a
 
 -- the counter of segments was loaded or added to
 pub claim_kept : (words : List ℕ) (log : Log) (sealed : List Sealed) (fetch : Fetching) (k : Work) (placed : List Placed) (rs : List Receipt) (located : Located) (gate : ℕ) (to : Position) (claim : Claim)

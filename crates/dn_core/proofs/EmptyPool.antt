@@ -12,7 +12,7 @@ use Rattle.dn_model.specs.Held.{Says, authority_by, held_from}
 use Rattle.dn_model.specs.declared.logs.Placed.{Placed}
 use Rattle.dn_model.specs.OneLog.{IsEmptyIndex}
 use Rattle.dn_model.specs.PoolMap.{HoldsMap}
-use Rattle.dn_model.specs.Regions.{gate, gate_at, deed_at, bucket_at}
+use Rattle.dn_model.specs.Regions.{gate, gate_at, cell, deed_at, bucket_at}
 use Rattle.dn_model.proofs.HashLaws.{home_below}
 use Rattle.dn_model.proofs.IndexLaws.{empty_chain, empty_index}
 use Rattle.dn_core.specs.CutOff.{IsSameBut}
@@ -37,7 +37,7 @@ pub empty_pool : (words now : List ℕ) → IsZeros words → IsTouched words no
 empty_pool words now z t =
     let zero : (at : ℕ) → at ≢ 0 → (at < 192) ⊎ (256 ≤ at) → word_at now at ≡ 0 = λ at other region. t.others at other region ∙ z.each at in
     let short : (n : ℕ) → n < 64 → (gate now n).len ≡ 0 = λ n lt. ap (λ w. (gate_of w).len) (zero (gate_at n) (λ e. absurd (omega (arith, e))) (inl (omega (arith, lt)))) in
-    let index : IsEmptyIndex now = record { each = λ b i lt below. zero (bucket_at b i) (λ e. absurd (omega (arith, e))) (inr (omega arith)) } in
+    let index : IsEmptyIndex now = record { each = λ b i lt pos below. zero (bucket_at b i) (λ e. absurd (omega (arith, e))) (inr (omega arith)) } in
     record {
       logs = no_logs;
       chains = no_overflow;
@@ -47,7 +47,7 @@ empty_pool words now z t =
         chains_are = λ home lt. empty_chain now home lt index;
       };
       holds = λ k pos.
-          ap (λ x. held_from now no_logs k (authority_by no_logs k None x)) (empty_index now k pos (home_below k) index) ∙ ap Says (sym (nothing_at k));
+          ap (λ x. held_from (cell now) no_logs k (authority_by no_logs k None x)) (empty_index now k pos (home_below k) index) ∙ ap Says (sym (nothing_at k));
       no_key = nothing_at 0;
     }
 

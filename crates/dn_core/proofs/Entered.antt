@@ -3,6 +3,7 @@ use Rattle.std.proofs.lemmas.List.Elements.{All-cons, All-nil}
 use Rattle.dn_hist.specs.Calls.{key_of}
 use Rattle.dn_hist.specs.declared.calls.Call.{Call}
 use Rattle.dn_hist.specs.declared.calls.Call.TheVariants.{Get, Put, Delete}
+use Rattle.dn_hist.specs.declared.calls.Reply.{Reply}
 use Rattle.dn_hist.specs.declared.receipts.Receipt.{Receipt}
 use Rattle.dn_record.specs.Grammar.{IsRecord}
 use Rattle.dn_record.specs.Record.{spelling, length_in_words, value_of}
@@ -55,10 +56,10 @@ record_fits (Get key) at w h = absurd w
 record_fits (Put key value) at w h = h
 record_fits (Delete key) at w h = h
 
-pub writes_is : (call : Call) → IsWrite call → is_write call ≡ true
-writes_is (Get key) w = absurd w
-writes_is (Put key value) w = refl
-writes_is (Delete key) w = refl
+pub writes_is : (call : Call) (reply : Reply) → IsWrite call → is_write call reply ≡ true
+writes_is (Get key) reply w = absurd w
+writes_is (Put key value) reply w = refl
+writes_is (Delete key) reply w = refl
 
 pub done_right : (rs : List Receipt) (t : ℕ) (call : Call) → IsWrite call → IsRight rs t call (done_of call)
 done_right rs t (Get key) w = absurd w

@@ -114,12 +114,16 @@ kind_directory : (words : List ℕ) (log : Log) (call : Call) (x : Staged) → I
 kind_directory words log call x fit long names (inl d) = rw d.at_is (spare_directory words log x fit long names d)
 kind_directory words log call x fit long names (inr w) = rw w.at_is (log_word_directory words log w.offset x.word fit names)
 
+-- beside the gates and the deeds
+kind_aside : (log : Log) (call : Call) (x : Staged) → IsKind log call x → (x.at < 64) ⊎ (256 ≤ x.at)
+kind_aside log call x kind = inr (omega (arith, kind_past log call x kind))
+
 flow_standing : (words : List ℕ) (log : Log) (call : Call) (sealed : List Sealed) (placed : List Placed) (rs : List Receipt) (x : Staged) → IsStanding words log sealed placed rs → IsKind log call x
     → IsStanding (slice_set words x.at x.word) log sealed placed rs
 flow_standing words log call sealed placed rs x s kind =
     let long : x.at < length words = omega (arith, kind_below log call x s.space.fit kind, s.space.size) in
-    standing_kept words (slice_set words x.at x.word) log log.spare sealed placed rs (kind_same words log call sealed placed rs x s kind)
-    (word_at-set_other words x.at 0 x.word (λ e. absurd (omega (arith, e, kind_past log call x kind))))
+    standing_kept words x.at x.word log log.spare sealed placed rs (kind_same words log call sealed placed rs x s kind)
+    (λ e. absurd (omega (arith, e, kind_past log call x kind))) (kind_aside log call x kind)
     (space_kept_by words (slice_set words x.at x.word) log (length-set words x.at x.word) (word_at-set_other words x.at 1 x.word (λ e. absurd (omega (arith, e, kind_past log call x kind)))) s.space)
     (kind_directory words log call x s.space.fit long s.directory kind) s
 
@@ -149,7 +153,7 @@ pub flow_kept : (words : List ℕ) (log : Log) (sealed : List Sealed) (x : Stage
 flow_kept words log sealed x xs fetch call view room placed rs located gate to s t a =
     let kind_of : (y : Staged) → Contains (staged_of log call) y → IsKind log call y = λ y c. staged_kinds log call y a.reach c in
     let kind : IsKind log call x = kind_of x (a.flowing.only x (0, omega arith, refl)) in
-    let gate_is = gate_stays words (slice_set words x.at x.word) log.lane placed (kind_same words log call sealed placed rs x s kind) s.one in
+    let gate_is = gate_stays words x.at x.word log.lane s.one.lane.below (kind_aside log call x kind) in
     record {
       sound = record {
         placed = placed;

@@ -20,7 +20,7 @@ use Rattle.dn_locate.specs.Fetch.{Fetching}
 use Rattle.dn_model.specs.declared.logs.Placed.{Placed}
 use Rattle.dn_model.specs.Held.{unmerged}
 use Rattle.dn_model.specs.OneLog.{left_in}
-use Rattle.dn_model.specs.Register.{is_write, IsRegister}
+use Rattle.dn_model.specs.Register.{may_write, IsRegister}
 use Rattle.dn_model.proofs.RegisterSteps.{register_same}
 use Rattle.dn_model.specs.Regions.{gate, gate_at}
 use Rattle.dn_lane.specs.Next.{sealing}
@@ -210,7 +210,7 @@ gate_kept words log sealed fetch k placed rs floor located s t a word e =
 
 -- ---- the gate of a get was exchanged
 raise_get : (words : List ℕ) (log : Log) (sealed : List Sealed) (fetch : Fetching) (call : Call) (view : SessionView) (room : List ℕ) (place : Place) (placed : List Placed) (rs : List Receipt) (located : Located) (gate_word : ℕ) (to : Position)
-    → IsStanding words log sealed placed rs → IsTimed words log (call_at call view room place) rs → is_write call ≡ false
+    → IsStanding words log sealed placed rs → IsTimed words log (call_at call view room place) rs → may_write call ≡ false
     → IsFound call (found (call_at call view room place) located) placed → IsLocated call located.way placed
     → IsRaising words log (call_at call view room place) gate_word to
     → Keeps (call_at call view room place) (stamp_in words log) (slice_set words (gate_at log.lane) (sealing to log.len)) rs

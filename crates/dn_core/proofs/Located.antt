@@ -11,7 +11,7 @@ use Rattle.dn_record.specs.declared.records.Record.TheVariants as entry
 use Rattle.dn_model.specs.declared.logs.Placed.{Placed}
 use Rattle.dn_model.specs.Held.{is_authority, authorities, entry_of, unmerged}
 use Rattle.dn_model.specs.OneLog.{is_plain}
-use Rattle.dn_model.specs.Register.{is_write}
+use Rattle.dn_model.specs.Register.{may_write}
 use Rattle.dn_lane.specs.declared.answers.Way.{Way}
 use Rattle.dn_lane.specs.declared.answers.Way.TheVariants.{Pending, Index}
 use Rattle.dn_core.specs.Found.{way_by}
@@ -29,7 +29,7 @@ abbrev way_if : Bool → Way
 way_if b = if b then Pending else Index
 
 -- ---- the calls
-sealed_by : (key : ℕ) (call : Call) (rs : List Record) (b : Bool) → is_among key rs ≡ b → is_among key (record_by call ++ rs) ≡ ((is_write call && nat_eq (key_of call) key) || b)
+sealed_by : (key : ℕ) (call : Call) (rs : List Record) (b : Bool) → is_among key rs ≡ b → is_among key (record_by call ++ rs) ≡ ((may_write call && nat_eq (key_of call) key) || b)
 sealed_by key (Get its) rs b e = e
 sealed_by key (Put its value) rs b e = ap (λ c. nat_eq its key || c) e
 sealed_by key (Delete its) rs b e = ap (λ c. nat_eq its key || c) e

@@ -48,7 +48,7 @@ opened_log words now segments lane z o l =
       others = λ m is other. empty m is.below;
       owns = λ s lt. ap (λ w. (deed_of w).lane) (o.deeds s lt) ∙ ap (λ (d : Deed). d.lane) (first_again lane l.below);
       merged = zero_at words now segments lane (mark_at lane) z o (λ e. absurd (omega (arith, e))) (inl (omega (arith, l.below)));
-      index = record { each = λ b i lt below. zero_at words now segments lane (bucket_at b i) z o (λ e. absurd (omega (arith, e))) (inr (omega arith)) };
+      index = record { each = λ b i lt pos below. zero_at words now segments lane (bucket_at b i) z o (λ e. absurd (omega (arith, e))) (inr (omega arith)) };
       plain = search rules;
     }
 

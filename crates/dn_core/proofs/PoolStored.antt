@@ -1,11 +1,13 @@
-use Rattle.std.proofs.Common.{ℕ, ◌≡◌, ◌≤◌, ◌<◌, ◌+◌, Option, Some, List, length, subst, refl, ap, sym, ◌∙◌, arith}
+use Rattle.std.proofs.Common.{ℕ, ◌≡◌, ◌≢◌, ◌⊎◌, inl, inr, ◌≤◌, ◌<◌, ◌+◌, Option, Some, List, length, slice_set, subst, refl, ap, sym, ◌∙◌, arith}
 use Rattle.dn_word.specs.Gate.{gate_of}
+use Rattle.dn_word.specs.Deed.{deed_of}
 use Rattle.dn_hist.specs.declared.receipts.Receipt.{Receipt}
 use Rattle.dn_act.specs.Words.{word_at}
+use Rattle.dn_act.proofs.Words.{word_at-set_other}
 use Rattle.dn_log.specs.Log.{Log}
-use Rattle.dn_model.specs.Regions.{gate, gate_at, directory}
+use Rattle.dn_model.specs.Regions.{gate, gate_at, directory, deed, deed_at}
 use Rattle.dn_model.specs.declared.logs.Placed.{Placed}
-use Rattle.dn_model.specs.OneLog.{IsOneLog, left_in}
+use Rattle.dn_model.specs.OneLog.{left_in}
 use Rattle.dn_model.specs.Register.{IsRegister}
 use Rattle.dn_model.specs.Same.{SamePool}
 use Rattle.dn_model.proofs.FrameLaws.{one_log_kept}
@@ -25,16 +27,21 @@ use Rattle.dn_core.proofs.State.{stamp_in}
 
 pub same_pool_itself : (words : List ℕ) → SamePool words words
 same_pool_itself words = record {
-  logs = λ n l. record { gate_is = refl; directory_is = λ q lt pos. refl; words_are = λ o lt. refl };
+  logs = λ n l. record { len_is = refl; directory_is = λ q lt pos. refl; words_are = λ o lt. refl };
   marks = λ n l. refl;
   deeds = λ s lt. refl;
   cells = λ j lt. refl;
-  buckets = record { same = λ b i lt below. refl };
+  buckets = record { same = λ b i lt pos below. refl };
 }
 
--- the lane's gate
-pub gate_stays : (words now : List ℕ) (n : ℕ) (placed : List Placed) → SamePool words now → IsOneLog words n placed → word_at now (gate_at n) ≡ word_at words (gate_at n)
-gate_stays words now n placed s one = (s.logs n one.lane).gate_is
+-- the lane's gate and the deeds, where a word beside the gates and the deeds was stored
+pub gate_stays : (words : List ℕ) (at new n : ℕ) → n < 64 → (at < 64) ⊎ (256 ≤ at) → word_at (slice_set words at new) (gate_at n) ≡ word_at words (gate_at n)
+gate_stays words at new n lt (inl low) = word_at-set_other words at (gate_at n) new (λ e. absurd (omega (arith, e, low)))
+gate_stays words at new n lt (inr high) = word_at-set_other words at (gate_at n) new (λ e. absurd (omega (arith, e, high, lt)))
+
+deed_stays : (words : List ℕ) (at new t : ℕ) → t < 64 → (at < 64) ⊎ (256 ≤ at) → deed (slice_set words at new) t ≡ deed words t
+deed_stays words at new t lt (inl low) = ap deed_of (word_at-set_other words at (deed_at t) new (λ e. absurd (omega (arith, e, low))))
+deed_stays words at new t lt (inr high) = ap deed_of (word_at-set_other words at (deed_at t) new (λ e. absurd (omega (arith, e, high, lt))))
 
 register_kept_by : (words now : List ℕ) (n : ℕ) (placed : List Placed) (rs : List Receipt) → word_at now (gate_at n) ≡ word_at words (gate_at n)
     → IsRegister (λ k. left_in k placed) (λ k. (gate words n).stamp) rs → IsRegister (λ k. left_in k placed) (λ k. (gate now n).stamp) rs
@@ -60,17 +67,18 @@ directory_kept words now log few same d = record {
 }
 
 -- all parts, the space and the directory given, whatever the lane has as its spare
-pub standing_kept : (words now : List ℕ) (log : Log) (spare : Option ℕ) (sealed : List Sealed) (placed : List Placed) (rs : List Receipt) → SamePool words now → word_at now 0 ≡ word_at words 0
-    → IsSpace now (record log { spare = spare }) → NamesSegments now (record log { spare = spare })
-    → IsStanding words log sealed placed rs → IsStanding now (record log { spare = spare }) sealed placed rs
-standing_kept words now log spare sealed placed rs same format space directory s =
-    let e = gate_stays words now log.lane placed same s.one in
+pub standing_kept : (words : List ℕ) (at new : ℕ) (log : Log) (spare : Option ℕ) (sealed : List Sealed) (placed : List Placed) (rs : List Receipt) → SamePool words (slice_set words at new) → at ≢ 0 → (at < 64) ⊎ (256 ≤ at)
+    → IsSpace (slice_set words at new) (record log { spare = spare }) → NamesSegments (slice_set words at new) (record log { spare = spare })
+    → IsStanding words log sealed placed rs → IsStanding (slice_set words at new) (record log { spare = spare }) sealed placed rs
+standing_kept words at new log spare sealed placed rs same past aside space directory s =
+    let now : List ℕ = slice_set words at new in
+    let e : word_at now (gate_at log.lane) ≡ word_at words (gate_at log.lane) = gate_stays words at new log.lane s.one.lane.below aside in
     record {
-      format = format ∙ s.format;
+      format = word_at-set_other words at 0 new (λ x. past (sym x)) ∙ s.format;
       space = space;
       directory = directory;
       gate_is = record { unfenced = ap (λ w. (gate_of w).fenced) e ∙ s.gate_is.unfenced; sealed = ap (λ w. (gate_of w).len) e ∙ s.gate_is.sealed };
-      deeds = record { each = λ t lt. same.deeds t lt ∙ s.deeds.each t lt };
+      deeds = record { each = λ t lt. deed_stays words at new t lt aside ∙ s.deeds.each t lt };
       one = one_log_kept words now log.lane placed same s.one;
       keeps = s.keeps;
       wrote = s.wrote;

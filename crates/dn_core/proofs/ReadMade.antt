@@ -35,7 +35,7 @@ read_at key view room place located to = record { position = to; number = view.n
 -- its key is a register still
 pub read_register : (stamp key : ℕ) (view : SessionView) (room : List ℕ) (place : Place) (placed : List Placed) (rs : List Receipt) (located : Located) (to : Position)
     → IsRegister (λ k. left_in k placed) (λ k. stamp) rs → found (call_at (Get key) view room place) located ≡ found_of (left_in key placed) → to.stamp ≡ stamp
-    → ((r : Receipt) → Contains rs r → key_of r.call ≡ key → r.position.stamp ≡ to.stamp → is_write r.call ≡ true → 0 < to.rank)
+    → ((r : Receipt) → Contains rs r → key_of r.call ≡ key → r.position.stamp ≡ to.stamp → is_write r.call r.reply ≡ true → 0 < to.rank)
     → IsRegister (λ k. left_in k placed) (λ k. stamp) (rs ++ read_at key view room place located to ∷ [])
 read_register stamp key view room place placed rs located to register knows e behind =
     let At : ℕ → Type 0 = λ n. Leaves rs key n (left_in key placed) in

@@ -3,7 +3,7 @@ use Rattle.std.proofs.lemmas.Bool.{false≢true}
 use Rattle.dn_hist.specs.declared.calls.Call.{Call}
 use Rattle.dn_hist.specs.declared.calls.Call.TheVariants.{Get, Put, Delete}
 use Rattle.dn_hist.specs.declared.receipts.Receipt.{Receipt}
-use Rattle.dn_model.specs.Register.{is_write}
+use Rattle.dn_model.specs.Register.{may_write}
 use Rattle.dn_core.specs.Written.{record_by, records_of, len_with, len_from}
 
 -- ---- one more receipt
@@ -18,18 +18,18 @@ len_push l [] r = refl
 len_push l (x ∷ xs) r = len_push (len_with x.call l) xs r
 
 -- ---- a read adds no record
-none_by : (call : Call) → is_write call ≡ false → record_by call ≡ []
+none_by : (call : Call) → may_write call ≡ false → record_by call ≡ []
 none_by (Get key) e = refl
 none_by (Put key value) e = absurd (false≢true (sym e))
 none_by (Delete key) e = absurd (false≢true (sym e))
 
-no_longer : (call : Call) (len : ℕ) → is_write call ≡ false → len_with call len ≡ len
+no_longer : (call : Call) (len : ℕ) → may_write call ≡ false → len_with call len ≡ len
 no_longer (Get key) len e = refl
 no_longer (Put key value) len e = absurd (false≢true (sym e))
 no_longer (Delete key) len e = absurd (false≢true (sym e))
 
-pub read_records : (rs : List Receipt) (r : Receipt) → is_write r.call ≡ false → records_of (rs ++ r ∷ []) ≡ records_of rs
+pub read_records : (rs : List Receipt) (r : Receipt) → may_write r.call ≡ false → records_of (rs ++ r ∷ []) ≡ records_of rs
 read_records rs r e = records_push rs r ∙ ap (λ x. records_of rs ++ x) (none_by r.call e) ∙ append-nil (records_of rs)
 
-pub read_len : (rs : List Receipt) (r : Receipt) → is_write r.call ≡ false → len_from 0 (rs ++ r ∷ []) ≡ len_from 0 rs
+pub read_len : (rs : List Receipt) (r : Receipt) → may_write r.call ≡ false → len_from 0 (rs ++ r ∷ []) ≡ len_from 0 rs
 read_len rs r e = len_push 0 rs r ∙ no_longer r.call (len_from 0 rs) e

@@ -111,7 +111,7 @@ seal_standing words log sealed placed rs call to number at pad offset end segmen
     let stamp : (gate now log.lane).stamp ≡ to.stamp = ap (λ (x : Gate). x.stamp) is in
     let past : (gate words log.lane).stamp < to.stamp = omega (arith, next) in
     let before = s.stamps in
-    let write : IsWriteOf (λ k. (gate words log.lane).stamp) rs r = record { write = writes_is call w; first = rank; past = past; right = done_right rs to.stamp call w } in
+    let write : IsWriteOf (λ k. (gate words log.lane).stamp) rs r = record { write = writes_is call (done_of call) w; first = rank; past = past; right = done_right rs to.stamp call w } in
     record {
       format = format_stays words log.lane (sealing to end) ∙ s.format;
       space = gate_space words (grown log end segments spare) (sealing to end) (grown_space words log end segments spare g s.space);

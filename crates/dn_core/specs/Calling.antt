@@ -13,7 +13,7 @@ use Rattle.dn_log.specs.declared.staging.Staged.{Staged}
 use Rattle.dn_locate.specs.Fetch.{Fetching}
 use Rattle.dn_model.specs.Regions.{gate, gate_at}
 use Rattle.dn_model.specs.declared.logs.Placed.{Placed}
-use Rattle.dn_model.specs.Register.{is_write}
+use Rattle.dn_model.specs.Register.{may_write}
 use Rattle.dn_lane.specs.Fit.{ClaimsFor}
 use Rattle.dn_lane.specs.Spelled.{record_words, IsWrite}
 use Rattle.dn_lane.specs.Staged.{staged_of}
@@ -64,7 +64,7 @@ pub record AtGate (staged : List Staged) (k : Work) (placed : List Placed) (floo
 
 pub record AtRaise (words : List ℕ) (log : Log) (staged : List Staged) (k : Work) (placed : List Placed) (located : Located) (word : ℕ) (to : Position) : Type 0 where
   pub waits : staged ≡ []
-  pub reads : is_write k.call ≡ false
+  pub reads : may_write k.call ≡ false
   pub knows : IsFound k.call (found k located) placed
   pub way : IsLocated k.call located.way placed
   pub raising : IsRaising words log k word to

@@ -8,7 +8,7 @@ use Rattle.dn_record.specs.declared.records.Record.{Record}
 use Rattle.dn_record.specs.declared.records.Record.TheVariants as entry
 use Rattle.dn_log.specs.Log.{start_of}
 use Rattle.dn_model.specs.declared.logs.Placed.{Placed}
-use Rattle.dn_model.specs.Register.{is_write}
+use Rattle.dn_model.specs.Register.{may_write}
 use Rattle.dn_lane.specs.Spelled.{record_words}
 use Rattle.dn_lane.specs.declared.answers.Way.{Way}
 use Rattle.dn_lane.specs.declared.answers.Way.TheVariants.{Pending, Index}
@@ -61,7 +61,7 @@ sealed_at lane len (Delete key) = Some (record { lane = lane; offset = start_of 
 -- whether one of these calls has sealed a record of the key
 abbrev pub has_record : ℕ → List Receipt → Bool
 has_record key [] = false
-has_record key (r ∷ rs) = (is_write r.call && nat_eq (key_of r.call) key) || has_record key rs
+has_record key (r ∷ rs) = (may_write r.call && nat_eq (key_of r.call) key) || has_record key rs
 
 -- by its last record, which nothing has merged, or else by the index, which has none
 abbrev pub way_in : ℕ → List Receipt → Way

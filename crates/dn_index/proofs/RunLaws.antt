@@ -198,7 +198,7 @@ empty_indexed words k long pos z = record {
   once = λ b c i j s t l u lj uj e f.
       let m : b ≡ home_of k = empty_stands words b (home_of k) (home_below k) z s in
       let h = home_below k in
-      let n : bucket words b i ≡ 0 = z.each b i (omega (arith, m, h)) (omega (arith, u)) in
+      let n : bucket words b i ≡ 0 = z.each b i (omega (arith, m, h)) (omega (arith, l)) (omega (arith, u)) in
       absurd (omega (arith, n, e, pos));
 }
 
@@ -208,9 +208,9 @@ empty_room words k z none = record {
     overflow = omega arith;
     below = omega (arith, none);
     loose = record { none = λ h lt s. (let e : 4096 + word_at words 3 ≡ h = empty_stands words (4096 + word_at words 3) h lt z s in absurd (omega (arith, e, lt))) };
-    second = z.each (4096 + word_at words 3) 2 (omega (arith, none)) (omega arith);
-    third = z.each (4096 + word_at words 3) 3 (omega (arith, none)) (omega arith);
-    next = z.each (4096 + word_at words 3) 7 (omega (arith, none)) (omega arith);
+    second = z.each (4096 + word_at words 3) 2 (omega (arith, none)) (omega arith) (omega arith);
+    third = z.each (4096 + word_at words 3) 3 (omega (arith, none)) (omega arith) (omega arith);
+    next = z.each (4096 + word_at words 3) 7 (omega (arith, none)) (omega arith) (omega arith);
   };
   claimed = λ chain h. (let e : length chain ≡ 0 = ap (λ (cs : List ℕ). length cs) (chain_one words (home_of k) chain [] h (empty_chain words (home_of k) (home_below k) z)) in omega (arith, e));
   apart = λ b s. record {

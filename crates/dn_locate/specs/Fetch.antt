@@ -86,8 +86,8 @@ rest_of Delete wish = Nothing
 rest_of LooseDelete wish = Nothing
 rest_of Unshare Value = Linked
 rest_of Unshare Kind = Nothing
-rest_of Unshare Place = Words 3
-rest_of (Share cell) wish = Words 3
+rest_of Unshare Place = Words (head_words Unshare)
+rest_of (Share cell) wish = Words (head_words (Share cell))
 rest_of (Pad words) wish = Nothing
 
 -- the fetch ends
@@ -180,7 +180,7 @@ left_in number Idle = 0
 left_in number Directory = 140
 left_in number (Header from) = 139
 left_in number (Content from count) = count - number
-left_in number (Link from) = 3 - number
+left_in number (Link from) = head_words Unshare - number
 
 -- and of all that are followed
 abbrev pub fetch_left : Fetching → ℕ
@@ -192,7 +192,7 @@ FitsAt number Idle = Unit {0}
 FitsAt number Directory = number ≡ 0
 FitsAt number (Header from) = (number ≡ 0) × (from < pool_size 8192)
 FitsAt number (Content from count) = (1 ≤ number) × (number < count) × (count ≤ 133) × (from < pool_size 8192)
-FitsAt number (Link from) = (1 ≤ number) × (number < 3) × (from < pool_size 8192)
+FitsAt number (Link from) = (1 ≤ number) × (number < head_words Unshare) × (from < pool_size 8192)
 
 -- so many words behind the header are those of a record
 abbrev pub IsRest : Rest → Type 0

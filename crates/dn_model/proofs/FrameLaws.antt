@@ -3,7 +3,6 @@ use Rattle.std.proofs.lemmas.List.Elements.{All-append}
 use Rattle.dn_word.specs.Gate.{gate_of}
 use Rattle.dn_word.specs.Deed.{deed_of}
 use Rattle.dn_word.specs.Ref.{ref_of}
-use Rattle.dn_word.specs.declared.packed.deed.Deed.{Deed}
 use Rattle.dn_word.specs.declared.packed.place.Ref.{Ref}
 use Rattle.dn_act.specs.Words.{word_at}
 use Rattle.dn_act.proofs.Words.{word_at-set_other}
@@ -12,10 +11,10 @@ use Rattle.dn_record.specs.Grammar.{IsRecord}
 use Rattle.dn_record.specs.declared.records.Record.{Record}
 use Rattle.dn_record.specs.declared.records.Record.TheVariants.{Put, Delete, Share, Unshare, Loose, LooseDelete, Pad}
 use Rattle.dn_model.specs.Same.{SamePool}
-use Rattle.dn_model.specs.Regions.{gate, gate_at, mark, mark_at, directory, directory_at, place, deed_at, cell_at, bucket_at, owner, slot_of, home_of, offsets, IsLane}
+use Rattle.dn_model.specs.Regions.{gate, gate_at, mark, mark_at, directory, directory_at, place, deed_at, cell, cell_at, bucket_at, owner, slot_of, home_of, offsets, IsLane}
 use Rattle.dn_model.specs.Log.{Placed, Tiles, IsCovered}
 use Rattle.dn_model.specs.Index.{index}
-use Rattle.dn_model.specs.Held.{Reads, is_authority, unmerged, record_at, Says, Astray, led_to, authority_by, held_by, held_from, held, named, cell_word}
+use Rattle.dn_model.specs.Held.{Reads, is_authority, unmerged, record_at, Says, Astray, led_to, authority_by, holder_by, holder_from, holder, held, value_in, named, cell_word}
 use Rattle.dn_model.specs.PoolMap.{HoldsMap}
 use Rattle.dn_model.specs.OneLog.{is_plain, IsOneLog}
 use Rattle.dn_model.proofs.HashLaws.{home_below, slot_below}
@@ -31,14 +30,14 @@ unmerged_frame words now logs chains k n s h = elim (lane_or_not n) [
   | inr l ↦ (let e : logs n ≡ [] = h.no_more n l in ap (λ x. unmerged k (mark now n) x) e ∙ sym (ap (λ x. unmerged k (mark words n) x) e))
 ]
 
-held_by_frame : (words now : List ℕ) (logs : ℕ → List Placed) (k : ℕ) (r : Record) → SamePool words now → IsRecord r → held_by now logs k r ≡ held_by words logs k r
-held_by_frame words now logs k (Put key value) s h = refl
-held_by_frame words now logs k (Delete key) s h = refl
-held_by_frame words now logs k (Share key j opening) s h = ap (λ w. named logs k (ref_of (cell_word opening w))) (s.cells j h.fields_fit.1)
-held_by_frame words now logs k (Unshare key at) s h = refl
-held_by_frame words now logs k (Loose key value) s h = refl
-held_by_frame words now logs k (LooseDelete key) s h = refl
-held_by_frame words now logs k (Pad n) s h = refl
+holder_by_frame : (words now : List ℕ) (logs : ℕ → List Placed) (k : ℕ) (r : Record) → SamePool words now → IsRecord r → holder_by (cell now) logs k r ≡ holder_by (cell words) logs k r
+holder_by_frame words now logs k (Put key value) s h = refl
+holder_by_frame words now logs k (Delete key) s h = refl
+holder_by_frame words now logs k (Share key j opening) s h = ap (λ w. named logs k (ref_of (cell_word opening w))) (s.cells j h.fields_fit.1)
+holder_by_frame words now logs k (Unshare key at) s h = refl
+holder_by_frame words now logs k (Loose key value) s h = refl
+holder_by_frame words now logs k (LooseDelete key) s h = refl
+holder_by_frame words now logs k (Pad n) s h = refl
 
 record_at_is : (P : Record → Type 0) (logs : ℕ → List Placed) (at : Option Ref) → ((n : ℕ) → Each (λ p. P p.entry) (logs n)) → (r : Record) → record_at logs at ≡ Some r → P r
 record_at_is P logs None each r e = absurd (nothing r e) where
@@ -46,17 +45,17 @@ record_at_is P logs None each r e = absurd (nothing r e) where
   nothing q f = cc
 record_at_is P logs (Some at) each r e = entry_at_is P at.offset (logs at.lane) (each at.lane) r e
 
-led_by_frame : (words now : List ℕ) (logs : ℕ → List Placed) (k : ℕ) (r : Record) (b : Bool) → SamePool words now → IsRecord r → held_from now logs k (if b then Says (Some r) else Astray) ≡ held_from words logs k (if b then Says (Some r) else Astray)
-led_by_frame words now logs k r true s h = held_by_frame words now logs k r s h
+led_by_frame : (words now : List ℕ) (logs : ℕ → List Placed) (k : ℕ) (r : Record) (b : Bool) → SamePool words now → IsRecord r → holder_from (cell now) logs k (if b then Says (Some r) else Astray) ≡ holder_from (cell words) logs k (if b then Says (Some r) else Astray)
+led_by_frame words now logs k r true s h = holder_by_frame words now logs k r s h
 led_by_frame words now logs k r false s h = refl
 
-led_frame : (words now : List ℕ) (logs : ℕ → List Placed) (k : ℕ) (x : Option Record) → SamePool words now → ((r : Record) → x ≡ Some r → IsRecord r) → held_from now logs k (led_to k x) ≡ held_from words logs k (led_to k x)
+led_frame : (words now : List ℕ) (logs : ℕ → List Placed) (k : ℕ) (x : Option Record) → SamePool words now → ((r : Record) → x ≡ Some r → IsRecord r) → holder_from (cell now) logs k (led_to k x) ≡ holder_from (cell words) logs k (led_to k x)
 led_frame words now logs k None s h = refl
 led_frame words now logs k (Some r) s h = led_by_frame words now logs k r (is_authority k r) s (h r refl)
 
 from_frame : (words now : List ℕ) (logs : ℕ → List Placed) (k : ℕ) (u : Option Record) (p : Option ℕ) → SamePool words now → ((r : Record) → u ≡ Some r → IsRecord r) → ((n : ℕ) → Each (λ q. IsRecord q.entry) (logs n))
-    → held_from now logs k (authority_by logs k u p) ≡ held_from words logs k (authority_by logs k u p)
-from_frame words now logs k (Some r) p s h each = held_by_frame words now logs k r s (h r refl)
+    → holder_from (cell now) logs k (authority_by logs k u p) ≡ holder_from (cell words) logs k (authority_by logs k u p)
+from_frame words now logs k (Some r) p s h each = holder_by_frame words now logs k r s (h r refl)
 from_frame words now logs k None None s h each = refl
 from_frame words now logs k None (Some word) s h each = led_frame words now logs k (record_at logs (ref_of word)) s (record_at_is IsRecord logs (ref_of word) each)
 
@@ -64,19 +63,22 @@ weakened : (k : ℕ) (log : List Placed) → Each (λ p. IsRecord p.entry) log �
 weakened k [] h = tt
 weakened k (p ∷ ps) h = (λ _. h.0, weakened k ps h.1)
 
-pub held_frame : (words now : List ℕ) (logs : ℕ → List Placed) (chains : ℕ → List ℕ) (k : ℕ) → SamePool words now → Reads words logs chains → held now logs chains k ≡ held words logs chains k
-held_frame words now logs chains k s h =
-    let o : owner now k ≡ owner words k = ap (λ (d : Deed). d.lane) (s.deeds (slot_of k) (slot_below k)) in
+pub holder_frame : (words now : List ℕ) (logs : ℕ → List Placed) (chains : ℕ → List ℕ) (k : ℕ) → SamePool words now → Reads words logs chains → holder now logs chains k ≡ holder words logs chains k
+holder_frame words now logs chains k s h =
+    let o : owner now k ≡ owner words k = s.deeds (slot_of k) (slot_below k) in
     let n : ℕ = owner words k in
     let each = log_records words logs chains h in
     let u : unmerged k (mark now (owner now k)) (logs (owner now k)) ≡ unmerged k (mark words n) (logs n) =
     ap (λ m. unmerged k (mark now m) (logs m)) o ∙ unmerged_frame words now logs chains k n s h in
     let i : index now (chains (home_of k)) k ≡ index words (chains (home_of k)) k =
     index_frame words now (chains (home_of k)) k (home_below k) s.buckets (h.chains_are (home_of k) (home_below k)) in
-    ap (λ x. held_from now logs k (authority_by logs k x (index now (chains (home_of k)) k))) u
-    ∙ ap (λ x. held_from now logs k (authority_by logs k (unmerged k (mark words n) (logs n)) x)) i
+    ap (λ x. holder_from (cell now) logs k (authority_by logs k x (index now (chains (home_of k)) k))) u
+    ∙ ap (λ x. holder_from (cell now) logs k (authority_by logs k (unmerged k (mark words n) (logs n)) x)) i
     ∙ from_frame words now logs k (unmerged k (mark words n) (logs n)) (index words (chains (home_of k)) k) s
     (unmerged_is IsRecord k (mark words n) (logs n) (weakened k (logs n) (each n))) each
+
+pub held_frame : (words now : List ℕ) (logs : ℕ → List Placed) (chains : ℕ → List ℕ) (k : ℕ) → SamePool words now → Reads words logs chains → held now logs chains k ≡ held words logs chains k
+held_frame words now logs chains k s h = ap value_in (holder_frame words now logs chains k s h)
 
 pub map_frame : (words now : List ℕ) (map : Bytes) → SamePool words now → HoldsMap words map → HoldsMap now map
 map_frame words now map s h = record {
@@ -92,43 +94,43 @@ map_frame words now map s h = record {
 pub segment_stored : (words : List ℕ) (at new : ℕ) → 98304 ≤ at → ((n o : ℕ) → IsLane n → o < (gate words n).len → place words n o ≢ at) → SamePool words (slice_set words at new)
 segment_stored words at new high apart = record {
   logs = λ n l. record {
-    gate_is = word_at-set_other words at (gate_at n) new (λ e. absurd (omega (arith, e, l.below)));
+    len_is = ap (λ w. (gate_of w).len) (word_at-set_other words at (gate_at n) new (λ e. absurd (omega (arith, e, l.below))));
     directory_is = λ q lt pos. word_at-set_other words at (directory_at n q) new (λ e. absurd (omega (arith, e, l.below)));
     words_are = λ o lt. word_at-set_other words at (place words n o) new (apart n o l lt);
   };
   marks = λ n l. word_at-set_other words at (mark_at n) new (λ e. absurd (omega (arith, e, l.below)));
-  deeds = λ s lt. ap deed_of (word_at-set_other words at (deed_at s) new (λ e. absurd (omega (arith, e))));
+  deeds = λ s lt. ap (λ w. (deed_of w).lane) (word_at-set_other words at (deed_at s) new (λ e. absurd (omega (arith, e))));
   cells = λ j lt. word_at-set_other words at (cell_at j) new (λ e. absurd (omega (arith, e)));
-  buckets = record { same = λ b i lt below. word_at-set_other words at (bucket_at b i) new (λ e. absurd (omega (arith, e))) };
+  buckets = record { same = λ b i lt pos below. word_at-set_other words at (bucket_at b i) new (λ e. absurd (omega (arith, e))) };
 }
 
 -- a word of a directory that named no segment
 pub directory_stored : (words : List ℕ) (n q new : ℕ) → n < 64 → q < 256 → directory words n q ≡ 0 → SamePool words (slice_set words (directory_at n q) new)
 directory_stored words n q new nl ql z = record {
   logs = λ m l. record {
-    gate_is = word_at-set_other words (directory_at n q) (gate_at m) new (λ e. absurd (omega (arith, e, l.below)));
+    len_is = ap (λ w. (gate_of w).len) (word_at-set_other words (directory_at n q) (gate_at m) new (λ e. absurd (omega (arith, e, l.below))));
     directory_is = λ r lt pos. word_at-set_other words (directory_at n q) (directory_at m r) new (λ e.
         let y : directory words m r ≡ 0 = ap (λ x. word_at words x) e ∙ z in absurd (omega (arith, y, pos)));
     words_are = λ o lt. word_at-set_other words (directory_at n q) (place words m o) new (λ e. absurd (omega (arith, e)));
   };
   marks = λ m l. word_at-set_other words (directory_at n q) (mark_at m) new (λ e. absurd (omega (arith, e, l.below)));
-  deeds = λ s lt. ap deed_of (word_at-set_other words (directory_at n q) (deed_at s) new (λ e. absurd (omega (arith, e))));
+  deeds = λ s lt. ap (λ w. (deed_of w).lane) (word_at-set_other words (directory_at n q) (deed_at s) new (λ e. absurd (omega (arith, e))));
   cells = λ j lt. word_at-set_other words (directory_at n q) (cell_at j) new (λ e. absurd (omega (arith, e)));
-  buckets = record { same = λ b i lt below. word_at-set_other words (directory_at n q) (bucket_at b i) new (λ e. absurd (omega (arith, e))) };
+  buckets = record { same = λ b i lt pos below. word_at-set_other words (directory_at n q) (bucket_at b i) new (λ e. absurd (omega (arith, e))) };
 }
 
 -- one of the three counters or the format
 pub counter_stored : (words : List ℕ) (at new : ℕ) → at < 64 → SamePool words (slice_set words at new)
 counter_stored words at new low = record {
   logs = λ n l. record {
-    gate_is = word_at-set_other words at (gate_at n) new (λ e. absurd (omega (arith, e)));
+    len_is = ap (λ w. (gate_of w).len) (word_at-set_other words at (gate_at n) new (λ e. absurd (omega (arith, e))));
     directory_is = λ q lt pos. word_at-set_other words at (directory_at n q) new (λ e. absurd (omega (arith, e)));
     words_are = λ o lt. word_at-set_other words at (place words n o) new (λ e. absurd (omega (arith, e)));
   };
   marks = λ n l. word_at-set_other words at (mark_at n) new (λ e. absurd (omega (arith, e)));
-  deeds = λ s lt. ap deed_of (word_at-set_other words at (deed_at s) new (λ e. absurd (omega (arith, e))));
+  deeds = λ s lt. ap (λ w. (deed_of w).lane) (word_at-set_other words at (deed_at s) new (λ e. absurd (omega (arith, e))));
   cells = λ j lt. word_at-set_other words at (cell_at j) new (λ e. absurd (omega (arith, e)));
-  buckets = record { same = λ b i lt below. word_at-set_other words at (bucket_at b i) new (λ e. absurd (omega (arith, e))) };
+  buckets = record { same = λ b i lt pos below. word_at-set_other words at (bucket_at b i) new (λ e. absurd (omega (arith, e))) };
 }
 
 -- ---- the pool with one log
@@ -136,10 +138,10 @@ pub one_log_kept : (words now : List ℕ) (n : ℕ) (log : List Placed) → Same
 one_log_kept words now n log s h = record {
   lane = h.lane;
   own = log_frame words now n log h.own (s.logs n h.lane);
-  others = λ m l d. ap (λ w. (gate_of w).len) ((s.logs m l).gate_is) ∙ h.others m l d;
-  owns = λ t lt. ap (λ (d : Deed). d.lane) (s.deeds t lt) ∙ h.owns t lt;
+  others = λ m l d. (s.logs m l).len_is ∙ h.others m l d;
+  owns = λ t lt. s.deeds t lt ∙ h.owns t lt;
   merged = s.marks n h.lane ∙ h.merged;
-  index = record { each = λ b i lt below. s.buckets.same b i lt below ∙ h.index.each b i lt below };
+  index = record { each = λ b i lt pos below. s.buckets.same b i lt pos below ∙ h.index.each b i lt pos below };
   plain = h.plain;
 }
 
@@ -155,6 +157,6 @@ one_log_sealed words n new log more long h t c plain =
       others = λ m l d. ap (λ w. (gate_of w).len) (other (gate_at m) (λ e. d (omega (arith, e)))) ∙ h.others m l d;
       owns = λ s lt. ap (λ w. (deed_of w).lane) (other (deed_at s) (λ e. absurd (omega (arith, e, h.lane.below)))) ∙ h.owns s lt;
       merged = other (mark_at n) (λ e. absurd (omega (arith, e))) ∙ h.merged;
-      index = record { each = λ b i lt below. other (bucket_at b i) (λ e. absurd (omega (arith, e, h.lane.below))) ∙ h.index.each b i lt below };
+      index = record { each = λ b i lt pos below. other (bucket_at b i) (λ e. absurd (omega (arith, e, h.lane.below))) ∙ h.index.each b i lt pos below };
       plain = All-append (λ (p : Placed). is_plain p.entry ≡ true) log more h.plain plain;
     }

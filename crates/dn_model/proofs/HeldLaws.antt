@@ -11,7 +11,7 @@ use Rattle.dn_record.specs.Record.{value_of}
 use Rattle.dn_record.specs.declared.records.Record.{Record}
 use Rattle.dn_record.specs.declared.records.Record.TheVariants.{Put, Delete, Share, Unshare, Loose, LooseDelete, Pad}
 use Rattle.dn_model.specs.Same.{SamePool}
-use Rattle.dn_model.specs.Regions.{gate, mark, owner, slot_of, IsLane}
+use Rattle.dn_model.specs.Regions.{gate, mark, owner, cell, slot_of, IsLane}
 use Rattle.dn_model.specs.Log.{Placed, IsLog}
 use Rattle.dn_model.specs.Index.{index}
 use Rattle.dn_model.specs.Held.{Reads, is_authority, authorities, entry_of, entry_at, unmerged, Says, authority_by, held_by, held_from, held}
@@ -127,7 +127,7 @@ one_log_reads words n log h = record {
 }
 
 -- a put or delete of k says what is held
-plain_held : (words : List ℕ) (logs : ℕ → List Placed) (k : ℕ) (r : Record) → is_authority k r ≡ true → is_plain r ≡ true → held_by words logs k r ≡ Says (value_of r)
+plain_held : (words : List ℕ) (logs : ℕ → List Placed) (k : ℕ) (r : Record) → is_authority k r ≡ true → is_plain r ≡ true → held_by (cell words) logs k r ≡ Says (value_of r)
 plain_held words logs k (Put key value) a p = refl
 plain_held words logs k (Delete key) a p = refl
 plain_held words logs k (Share key j opening) a p = absurd (false≢true p)
@@ -144,7 +144,7 @@ plain_each : (k : ℕ) (log : List Placed) → All (λ (p : Placed). is_plain p.
 plain_each k [] h = tt
 plain_each k (p ∷ ps) h = (λ a. record { of_key = a; plain = All-head (λ (q : Placed). is_plain q.entry ≡ true) p ps h }, plain_each k ps (All-tail (λ (q : Placed). is_plain q.entry ≡ true) p ps h))
 
-one_held : (words : List ℕ) (logs : ℕ → List Placed) (k : ℕ) (found : Option Record) → ((r : Record) → found ≡ Some r → IsPlainOf k r) → held_from words logs k (authority_by logs k found None) ≡ Says (option_and_then value_of found)
+one_held : (words : List ℕ) (logs : ℕ → List Placed) (k : ℕ) (found : Option Record) → ((r : Record) → found ≡ Some r → IsPlainOf k r) → held_from (cell words) logs k (authority_by logs k found None) ≡ Says (option_and_then value_of found)
 one_held words logs k None h = refl
 one_held words logs k (Some r) h = let p = h r refl in plain_held words logs k r p.of_key p.plain
 
@@ -155,8 +155,8 @@ one_log_held words n log k pos h =
     let at = λ (m : ℕ). unmerged k (mark words m) (only n log m) in
     let u : unmerged k (mark words (owner words k)) (only n log (owner words k)) ≡ unmerged k 0 log =
     ap at o ∙ ap (λ x. unmerged k x (only n log n)) h.merged ∙ ap (λ x. unmerged k 0 x) (only_own n log) in
-    ap (λ x. held_from words (only n log) k (authority_by (only n log) k x (index words [] k))) u
-    ∙ ap (λ x. held_from words (only n log) k (authority_by (only n log) k (unmerged k 0 log) x)) (empty_index words k pos (home_below k) h.index)
+    ap (λ x. held_from (cell words) (only n log) k (authority_by (only n log) k x (index words [] k))) u
+    ∙ ap (λ x. held_from (cell words) (only n log) k (authority_by (only n log) k (unmerged k 0 log) x)) (empty_index words k pos (home_below k) h.index)
     ∙ one_held words (only n log) k (unmerged k 0 log) (unmerged_is (λ r. IsPlainOf k r) k 0 log (plain_each k log h.plain))
 
 -- so the pool's map is what the log leaves at each key

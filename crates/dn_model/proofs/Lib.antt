@@ -8,6 +8,7 @@ pub mod LogLaws
 pub mod HeldLaws
 pub mod MapLaws
 pub mod FrameLaws
+pub mod ChangeLaws
 pub mod PieceLaws
 pub mod ChainLaws
 pub mod SettleLaws

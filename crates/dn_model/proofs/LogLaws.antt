@@ -78,7 +78,7 @@ offsets_same words now n log h s o lt =
 -- the log stays where these words stay
 pub log_frame : (words now : List ℕ) (n : ℕ) (log : List Placed) → IsLog words n log → SameLog words now n → IsLog now n log
 log_frame words now n log h s =
-    let l : (gate now n).len ≡ (gate words n).len = ap (λ w. (gate_of w).len) s.gate_is in
+    let l : (gate now n).len ≡ (gate words n).len = s.len_is in
     let P : ℕ → Type 0 = λ end. Tiles (offsets now n) 0 log end in
     record {
       tiled = subst P (sym l) (tiles_frame (offsets words n) (offsets now n) 0 (gate words n).len log (λ i a b. offsets_same words now n log h s i b) h.tiled);

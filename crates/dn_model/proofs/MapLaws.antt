@@ -8,7 +8,7 @@ use Rattle.dn_record.specs.Grammar.{IsRecord}
 use Rattle.dn_record.specs.Record.{spelling, length_in_words}
 use Rattle.dn_record.specs.declared.records.Record.{Record}
 use Rattle.dn_record.proofs.LawLemmas.{no_prefix}
-use Rattle.dn_model.specs.Regions.{gate, mark, owner, home_of, offsets, IsLane}
+use Rattle.dn_model.specs.Regions.{gate, mark, owner, cell, home_of, offsets, IsLane}
 use Rattle.dn_model.specs.Log.{Placed, Stand, SpellsAt, Tiles, IsLog}
 use Rattle.dn_model.specs.Index.{index}
 use Rattle.dn_model.specs.Held.{Reads, unmerged, Says, authority_by, held_from, held}
@@ -72,7 +72,7 @@ one_held words logs logs2 chains chains2 k h g =
     let same : logs ≡ logs2 = λ i n. one_reading words logs logs2 chains chains2 h g n i in
     let chain : chains (home_of k) ≡ chains2 (home_of k) = chain_one words (home_of k) (chains (home_of k)) (chains2 (home_of k)) (h.chains_are (home_of k) (home_below k)) (g.chains_are (home_of k) (home_below k)) in
     ap (λ l. held words l chains k) same
-    ∙ ap (λ c. held_from words logs2 k (authority_by logs2 k (unmerged k (mark words (owner words k)) (logs2 (owner words k))) (index words c k))) chain
+    ∙ ap (λ c. held_from (cell words) logs2 k (authority_by logs2 k (unmerged k (mark words (owner words k)) (logs2 (owner words k))) (index words c k))) chain
 
 says_one : (a b : Option (List ℕ)) → Says a ≡ Says b → a ≡ b
 says_one a b e = cc

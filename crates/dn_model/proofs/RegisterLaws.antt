@@ -19,19 +19,19 @@ use Rattle.dn_hist.specs.declared.calls.Call.{Call}
 use Rattle.dn_hist.specs.declared.calls.Call.TheVariants.{Get, Put, Delete}
 use Rattle.dn_hist.specs.declared.calls.Reply.{Reply}
 use Rattle.dn_hist.specs.declared.receipts.Receipt.{Receipt}
-use Rattle.dn_model.specs.Register.{is_write, written_by, Writes, Leaves, IsRight, IsLegalByStamp}
+use Rattle.dn_model.specs.Register.{is_write, written_by, Writes, StandsBefore, LeavesFrom, IsRightFrom, IsLegalByStampFrom}
 
 -- ---- one more receipt
 writes_along : (r s : Receipt) (k t : ℕ) → r ≡ s → Writes r k t → Writes s k t
 writes_along r s k t e w = let P : Receipt → Type 0 = λ x. Writes x k t in subst P e w
 
 -- one that doesn't write k up to t leaves what was left there
-pub leaves_other : (rs : List Receipt) (d : Receipt) (k t : ℕ) (v : Option (List ℕ)) → (Writes d k t → ⊥) → Leaves rs k t v → Leaves (rs ++ d ∷ []) k t v
-leaves_other rs d k t v other (inl h) = inl (record {
+pub stands_other : (start : ℕ → Option (List ℕ)) (rs : List Receipt) (d : Receipt) (k t : ℕ) (v : Option (List ℕ)) → (Writes d k t → ⊥) → StandsBefore start rs k t v → StandsBefore start (rs ++ d ∷ []) k t v
+stands_other start rs d k t v other (inl h) = inl (record {
   none = λ r among w. elim (Contains-push_cases rs d r among) [ inl i ↦ h.none r i w | inr e ↦ other (writes_along r d k t (sym e) w) ];
   is = h.is;
 })
-leaves_other rs d k t v other (inr h) = inr (record {
+stands_other start rs d k t v other (inr h) = inr (record {
   last = h.last;
   among = Contains-append_left rs (d ∷ []) h.last h.among;
   writes = h.writes;
@@ -40,8 +40,8 @@ leaves_other rs d k t v other (inr h) = inr (record {
 })
 
 -- one that writes k at a stamp past the others' leaves its own value
-pub leaves_write : (rs : List Receipt) (d : Receipt) (k t : ℕ) → Writes d k t → ((r : Receipt) → Contains rs r → Writes r k t → r.position.stamp ≤ d.position.stamp) → Leaves (rs ++ d ∷ []) k t (written_by d.call)
-leaves_write rs d k t w top = inr (record {
+pub stands_write : (start : ℕ → Option (List ℕ)) (rs : List Receipt) (d : Receipt) (k t : ℕ) → Writes d k t → ((r : Receipt) → Contains rs r → Writes r k t → r.position.stamp ≤ d.position.stamp) → StandsBefore start (rs ++ d ∷ []) k t (written_by d.call)
+stands_write start rs d k t w top = inr (record {
   last = d;
   among = Contains-push rs d;
   writes = w;
@@ -91,9 +91,9 @@ order_after pre d ds w up c =
     at_far (pre ++ d ∷ ds) (length pre) (length pre + (c.0 + 1)) d w up (omega arith) (let l : c.0 < length ds = c.1 in grind (arith, common_steps)) (get_or-append_seam pre d ds d) at
 
 -- ---- one list in place of another with the same receipts
-pub leaves_along : (rs hs : List Receipt) (k t : ℕ) (v : Option (List ℕ)) → ((r : Receipt) → Contains rs r → Contains hs r) → ((r : Receipt) → Contains hs r → Contains rs r) → Leaves rs k t v → Leaves hs k t v
-leaves_along rs hs k t v to from (inl h) = inl (record { none = λ r among w. h.none r (from r among) w; is = h.is })
-leaves_along rs hs k t v to from (inr h) = inr (record {
+pub stands_along : (start : ℕ → Option (List ℕ)) (rs hs : List Receipt) (k t : ℕ) (v : Option (List ℕ)) → ((r : Receipt) → Contains rs r → Contains hs r) → ((r : Receipt) → Contains hs r → Contains rs r) → StandsBefore start rs k t v → StandsBefore start hs k t v
+stands_along start rs hs k t v to from (inl h) = inl (record { none = λ r among w. h.none r (from r among) w; is = h.is })
+stands_along start rs hs k t v to from (inr h) = inr (record {
   last = h.last;
   among = to h.last h.among;
   writes = h.writes;
@@ -101,54 +101,57 @@ leaves_along rs hs k t v to from (inr h) = inr (record {
   is = h.is;
 })
 
-right_along : (rs hs : List Receipt) (t : ℕ) (call : Call) (reply : Reply) → ((r : Receipt) → Contains rs r → Contains hs r) → ((r : Receipt) → Contains hs r → Contains rs r) → IsRight rs t call reply → IsRight hs t call reply
-right_along rs hs t (Get key) reply to from h = (h.0, leaves_along rs hs key t h.0 to from h.1, h.2)
-right_along rs hs t (Put key value) reply to from h = h
-right_along rs hs t (Delete key) reply to from h = h
+right_along : (start : ℕ → Option (List ℕ)) (rs hs : List Receipt) (t : ℕ) (call : Call) (reply : Reply) → ((r : Receipt) → Contains rs r → Contains hs r) → ((r : Receipt) → Contains hs r → Contains rs r) → IsRightFrom start rs t call reply → IsRightFrom start hs t call reply
+right_along start rs hs t (Get key) reply to from h = (h.0, stands_along start rs hs key (t + 1) h.0 to from h.1, h.2)
+right_along start rs hs t (Put key value) reply to from h = h
+right_along start rs hs t (Delete key) reply to from h = h
 
-pub legal_along : (rs hs : List Receipt) → ((r : Receipt) → Contains rs r → Contains hs r) → ((r : Receipt) → Contains hs r → Contains rs r) → IsLegalByStamp rs → IsLegalByStamp hs
-legal_along rs hs to from h = record {
-  replies = λ r c. right_along rs hs r.position.stamp r.call r.reply to from (h.replies r (from r c));
+pub legal_along : (start : ℕ → Option (List ℕ)) (rs hs : List Receipt) → ((r : Receipt) → Contains rs r → Contains hs r) → ((r : Receipt) → Contains hs r → Contains rs r) → IsLegalByStampFrom start rs → IsLegalByStampFrom start hs
+legal_along start rs hs to from h = record {
+  replies = λ r c. right_along start rs hs r.position.stamp r.call r.reply to from (h.replies r (from r c));
   first = λ r c. h.first r (from r c);
   alone = λ r s c d. h.alone r s (from r c) (from s d);
   behind = λ r s c d. h.behind r s (from r c) (from s d);
 }
 
 -- ---- what the writes leave is one value
-pub leaves_one : (rs : List Receipt) (k t : ℕ) (v u : Option (List ℕ)) → IsLegalByStamp rs → Leaves rs k t v → Leaves rs k t u → v ≡ u
-leaves_one rs k t v u l (inl a) (inl b) = a.is ∙ sym b.is
-leaves_one rs k t v u l (inl a) (inr b) = absurd (a.none b.last b.among b.writes)
-leaves_one rs k t v u l (inr a) (inl b) = absurd (b.none a.last a.among a.writes)
-leaves_one rs k t v u l (inr a) (inr b) =
+pub stands_one : (start : ℕ → Option (List ℕ)) (rs : List Receipt) (k t : ℕ) (v u : Option (List ℕ)) → IsLegalByStampFrom start rs → StandsBefore start rs k t v → StandsBefore start rs k t u → v ≡ u
+stands_one start rs k t v u l (inl a) (inl b) = a.is ∙ sym b.is
+stands_one start rs k t v u l (inl a) (inr b) = absurd (a.none b.last b.among b.writes)
+stands_one start rs k t v u l (inr a) (inl b) = absurd (b.none a.last a.among a.writes)
+stands_one start rs k t v u l (inr a) (inr b) =
     let low = a.greatest b.last b.among b.writes in
     let high = b.greatest a.last a.among a.writes in
     let same : a.last ≡ b.last = l.alone a.last b.last a.among b.among (a.writes.key ∙ sym b.writes.key) (omega arith) a.writes.write b.writes.write in
     a.is ∙ ap (λ (r : Receipt). written_by r.call) same ∙ sym b.is
 
 -- past the stamps of a key the bound doesn't matter
-pub leaves_past : (rs : List Receipt) (k t u : ℕ) (v : Option (List ℕ)) → ((r : Receipt) → Contains rs r → key_of r.call ≡ k → r.position.stamp ≤ t) → t ≤ u → Leaves rs k t v → Leaves rs k u v
-leaves_past rs k t u v top le (inl h) = inl (record { none = λ r c w. h.none r c (record { write = w.write; key = w.key; upto = top r c w.key }); is = h.is })
-leaves_past rs k t u v top le (inr h) = inr (record {
+pub stands_past : (start : ℕ → Option (List ℕ)) (rs : List Receipt) (k t u : ℕ) (v : Option (List ℕ)) → ((r : Receipt) → Contains rs r → key_of r.call ≡ k → r.position.stamp < t) → t ≤ u → StandsBefore start rs k t v → StandsBefore start rs k u v
+stands_past start rs k t u v top le (inl h) = inl (record { none = λ r c w. h.none r c (record { write = w.write; key = w.key; below = top r c w.key }); is = h.is })
+stands_past start rs k t u v top le (inr h) = inr (record {
   last = h.last;
   among = h.among;
-  writes = record { write = h.writes.write; key = h.writes.key; upto = (let f : h.last.position.stamp ≤ t = h.writes.upto in omega arith) };
-  greatest = λ r c w. h.greatest r c (record { write = w.write; key = w.key; upto = top r c w.key });
+  writes = record { write = h.writes.write; key = h.writes.key; below = (let f : h.last.position.stamp < t = h.writes.below in omega arith) };
+  greatest = λ r c w. h.greatest r c (record { write = w.write; key = w.key; below = top r c w.key });
   is = h.is;
 })
 
--- ---- the plain map behind the calls so far has what their writes leave
-not_write : (c : Call) (key : ℕ) → c ≡ Get key → is_write c ≡ true → ⊥
-not_write c key e w = false≢true (sym (ap is_write e) ∙ w)
+pub leaves_past : (start : ℕ → Option (List ℕ)) (rs : List Receipt) (k t u : ℕ) (v : Option (List ℕ)) → ((r : Receipt) → Contains rs r → key_of r.call ≡ k → r.position.stamp ≤ t) → t ≤ u → LeavesFrom start rs k t v → LeavesFrom start rs k u v
+leaves_past start rs k t u v top le h = stands_past start rs k (t + 1) (u + 1) v (λ r c e. omega (arith, top r c e)) (omega arith) h
 
-pub map_write : (pre : List Receipt) (d : Receipt) (m : Bytes) (key q T : ℕ) (new : Option (List ℕ)) (n : Bytes) → (is_write d.call ≡ true) → (key_of d.call ≡ key) → d.position.stamp ≤ T → new ≡ written_by d.call
+-- ---- the plain map behind the calls so far has what their writes leave
+not_write : (c : Call) (reply : Reply) (key : ℕ) → c ≡ Get key → is_write c reply ≡ true → ⊥
+not_write c reply key e w = false≢true (sym (ap (λ x. is_write x reply) e) ∙ w)
+
+pub map_write : (start : ℕ → Option (List ℕ)) (pre : List Receipt) (d : Receipt) (m : Bytes) (key q T : ℕ) (new : Option (List ℕ)) (n : Bytes) → (is_write d.call d.reply ≡ true) → (key_of d.call ≡ key) → d.position.stamp ≤ T → new ≡ written_by d.call
     → ((r : Receipt) → Contains pre r → Precedes r.position d.position)
     → ((q ≡ key) → get n q ≡ new) → ((q ≡ key → ⊥) → get n q ≡ get m q)
-    → Leaves pre q T (get m q) → Leaves (pre ++ d ∷ []) q T (get n q)
-map_write pre d m key q T new n w e le is before here there h = elim (cases_eq q key) [
-  | inl s ↦ (let P : Option (List ℕ) → Type 0 = λ v. Leaves (pre ++ d ∷ []) q T v in
-      subst P (sym (here s ∙ is)) (leaves_write pre d q T (record { write = w; key = e ∙ sym s; upto = le }) (λ r c x. (before r c).stamp)))
-  | inr s ↦ (let P : Option (List ℕ) → Type 0 = λ v. Leaves (pre ++ d ∷ []) q T v in
-      subst P (sym (there s)) (leaves_other pre d q T (get m q) (λ x. s (sym x.key ∙ e)) h))
+    → LeavesFrom start pre q T (get m q) → LeavesFrom start (pre ++ d ∷ []) q T (get n q)
+map_write start pre d m key q T new n w e le is before here there h = elim (cases_eq q key) [
+  | inl s ↦ (let P : Option (List ℕ) → Type 0 = λ v. LeavesFrom start (pre ++ d ∷ []) q T v in
+      subst P (sym (here s ∙ is)) (stands_write start pre d q (T + 1) (record { write = w; key = e ∙ sym s; below = omega (arith, le) }) (λ r c x. (before r c).stamp)))
+  | inr s ↦ (let P : Option (List ℕ) → Type 0 = λ v. LeavesFrom start (pre ++ d ∷ []) q T v in
+      subst P (sym (there s)) (stands_other start pre d q (T + 1) (get m q) (λ x. s (sym x.key ∙ e)) h))
 ]
 
 put_same : (m : Bytes) (key : ℕ) (value : List ℕ) (q : ℕ) → q ≡ key → get (insert m key value) q ≡ Some value
@@ -163,7 +166,7 @@ gone_same m key q e = grind (arith, common_steps, gets)
 gone_other : (m : Bytes) (key : ℕ) (q : ℕ) → (q ≡ key → ⊥) → get (remove m key) q ≡ get m q
 gone_other m key q e = grind (arith, common_steps, gets)
 
-pub map_step : (pre : List Receipt) (d : Receipt) (m : Bytes) (q T : ℕ) (c : Call) → d.call ≡ c → d.position.stamp ≤ T → ((r : Receipt) → Contains pre r → Precedes r.position d.position) → Leaves pre q T (get m q) → Leaves (pre ++ d ∷ []) q T (get (map_after c m) q)
-map_step pre d m q T (Get key) e le before h = leaves_other pre d q T (get m q) (λ w. not_write d.call key e w.write) h
-map_step pre d m q T (Put key value) e le before h = map_write pre d m key q T (Some value) (insert m key value) (ap is_write e) (ap key_of e) le (sym (ap written_by e)) before (put_same m key value q) (put_other m key value q) h
-map_step pre d m q T (Delete key) e le before h = map_write pre d m key q T None (remove m key) (ap is_write e) (ap key_of e) le (sym (ap written_by e)) before (gone_same m key q) (gone_other m key q) h
+pub map_step : (start : ℕ → Option (List ℕ)) (pre : List Receipt) (d : Receipt) (m : Bytes) (q T : ℕ) (c : Call) → d.call ≡ c → d.position.stamp ≤ T → ((r : Receipt) → Contains pre r → Precedes r.position d.position) → LeavesFrom start pre q T (get m q) → LeavesFrom start (pre ++ d ∷ []) q T (get (map_after c m) q)
+map_step start pre d m q T (Get key) e le before h = stands_other start pre d q (T + 1) (get m q) (λ w. not_write d.call d.reply key e w.write) h
+map_step start pre d m q T (Put key value) e le before h = map_write start pre d m key q T (Some value) (insert m key value) (ap (λ x. is_write x d.reply) e) (ap key_of e) le (sym (ap written_by e)) before (put_same m key value q) (put_other m key value q) h
+map_step start pre d m q T (Delete key) e le before h = map_write start pre d m key q T None (remove m key) (ap (λ x. is_write x d.reply) e) (ap key_of e) le (sym (ap written_by e)) before (gone_same m key q) (gone_other m key q) h

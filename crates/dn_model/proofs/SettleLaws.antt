@@ -8,7 +8,7 @@ use Rattle.std.proofs.Math.ListN.{get_or-eq_default}
 use Rattle.std.specs.Ordering.{nat_cmp}
 use Rattle.std.specs.FinMap.{get, insert, remove, empty, gets}
 use Rattle.dn_hist.specs.Calls.{Bytes}
-use Rattle.dn_model.specs.Regions.{mark, owner, home_of, bucket}
+use Rattle.dn_model.specs.Regions.{cell, mark, owner, home_of, bucket}
 use Rattle.dn_record.specs.declared.records.Record.{Record}
 use Rattle.dn_model.specs.Log.{Placed}
 use Rattle.dn_model.specs.Index.{Leads, slots, first_place, index}
@@ -118,7 +118,7 @@ met_in X words b (c ∷ cs) k p lt l f e =
     (met_by X k (bucket words b 3) (bucket words b 6) (nat_eq (bucket words b 3) k) (first_place k (slots words (c ∷ cs))) p refl (f b 3 lt (omega arith) (omega arith))
     (met_in X words c cs k p l.2 l.3 f))) e
 
-nothing_read : (words : List ℕ) (logs : ℕ → List Placed) (holds : Found (Option (List ℕ))) (m : Bytes) (k : ℕ) (u : Option Record) (i : Option ℕ) → holds ≡ held_from words logs k (authority_by logs k u i)
+nothing_read : (words : List ℕ) (logs : ℕ → List Placed) (holds : Found (Option (List ℕ))) (m : Bytes) (k : ℕ) (u : Option Record) (i : Option ℕ) → holds ≡ held_from (cell words) logs k (authority_by logs k u i)
     → ((r : Record) → u ≡ Some r → holds ≡ Says (get m k)) → ((p : ℕ) → i ≡ Some p → holds ≡ Says (get m k)) → (get m k ≡ None) ⊎ (holds ≡ Says (get m k)) → holds ≡ Says (get m k)
 nothing_read words logs holds m k (Some r) i e f g c = f r refl
 nothing_read words logs holds m k None (Some p) e f g c = g p refl

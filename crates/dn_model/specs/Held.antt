@@ -2,6 +2,7 @@ use Rattle.std.specs.Prelude.{◌≡◌, ℕ, ◌<◌, Bool, false, ◌&&◌, Li
 use Rattle.std.specs.List.{filter, last_or}
 use Rattle.dn_word.specs.Ref.{ref_of}
 use Rattle.dn_word.specs.declared.packed.place.Ref.{Ref}
+use Rattle.dn_record.specs.Record.{value_of}
 use Rattle.dn_record.specs.declared.records.Record.{Record}
 use Rattle.dn_record.specs.declared.records.Record.TheVariants.{Put, Delete, Share, Unshare, Loose, LooseDelete, Pad}
 use Rattle.dn_model.specs.Regions.{mark, owner, cell, home_of, IsLane}
@@ -73,41 +74,75 @@ abbrev pub authority : List ℕ → (ℕ → List Placed) → (ℕ → List ℕ)
 authority words logs chains k =
     authority_by logs k (unmerged k (mark words (owner words k)) (logs (owner words k))) (index words (chains (home_of k)) k)
 
--- what a record of k names as a value: it has one, or it says that there is none
-abbrev pub value_in : ℕ → Option Record → Found (Option (List ℕ))
-value_in k None = Astray
-value_in k (Some (Put key value)) = if nat_eq key k then Says (Some value) else Astray
-value_in k (Some (Loose key value)) = if nat_eq key k then Says (Some value) else Astray
-value_in k (Some (Delete key)) = if nat_eq key k then Says None else Astray
-value_in k (Some (LooseDelete key)) = if nat_eq key k then Says None else Astray
-value_in k (Some (Share key cell opening)) = Astray
-value_in k (Some (Unshare key at)) = Astray
-value_in k (Some (Pad words)) = Astray
+-- ---- which record holds the value
+-- whether a record is one of k that has its value, or says that it has none
+abbrev pub is_holder : ℕ → Record → Bool
+is_holder k (Put key value) = nat_eq key k
+is_holder k (Delete key) = nat_eq key k
+is_holder k (Loose key value) = nat_eq key k
+is_holder k (LooseDelete key) = nat_eq key k
+is_holder k (Share key cell opening) = false
+is_holder k (Unshare key at) = false
+is_holder k (Pad words) = false
 
--- what a place names as the value of k: no place names nothing
-abbrev pub named : (ℕ → List Placed) → ℕ → Option Ref → Found (Option (List ℕ))
+-- where a place leads that is to name the value of k: such a record
+abbrev pub holder_at : ℕ → Option Record → Found (Option Record)
+holder_at k None = Astray
+holder_at k (Some r) = if is_holder k r then Says (Some r) else Astray
+
+-- the record that a place names as the holder of k: no place names none
+abbrev pub named : (ℕ → List Placed) → ℕ → Option Ref → Found (Option Record)
 named logs k None = Says None
-named logs k (Some at) = value_in k (record_at logs (Some at))
+named logs k (Some at) = holder_at k (record_at logs (Some at))
 
 -- the word of a shared key: its cell, open or closed, or while that is 0 the word with which it opens
 abbrev pub cell_word : ℕ → ℕ → ℕ
 cell_word opening word = if nat_eq word 0 then opening else word
 
--- what an authority record says is held
-abbrev pub held_by : List ℕ → (ℕ → List Placed) → ℕ → Record → Found (Option (List ℕ))
-held_by words logs k (Put key value) = Says (Some value)
-held_by words logs k (Delete key) = Says None
-held_by words logs k (Share key j opening) = named logs k (ref_of (cell_word opening (cell words j)))
-held_by words logs k (Unshare key at) = named logs k at
-held_by words logs k (Loose key value) = Astray
-held_by words logs k (LooseDelete key) = Astray
-held_by words logs k (Pad n) = Astray
+-- The place at which an authority record says that the holder is, by the words of the cells. A put or delete says none, since it
+-- is the holder itself.
+abbrev pub place_by : (ℕ → ℕ) → Record → Option Ref
+place_by cells (Put key value) = None
+place_by cells (Delete key) = None
+place_by cells (Share key j opening) = ref_of (cell_word opening (cells j))
+place_by cells (Unshare key at) = at
+place_by cells (Loose key value) = None
+place_by cells (LooseDelete key) = None
+place_by cells (Pad n) = None
 
-abbrev pub held_from : List ℕ → (ℕ → List Placed) → ℕ → Found (Option Record) → Found (Option (List ℕ))
-held_from words logs k Astray = Astray
-held_from words logs k (Says None) = Says None
-held_from words logs k (Says (Some r)) = held_by words logs k r
+-- the holder that an authority record gives its key
+abbrev pub holder_by : (ℕ → ℕ) → (ℕ → List Placed) → ℕ → Record → Found (Option Record)
+holder_by cells logs k (Put key value) = Says (Some (Put key value))
+holder_by cells logs k (Delete key) = Says (Some (Delete key))
+holder_by cells logs k (Share key j opening) = named logs k (place_by cells (Share key j opening))
+holder_by cells logs k (Unshare key at) = named logs k (place_by cells (Unshare key at))
+holder_by cells logs k (Loose key value) = Astray
+holder_by cells logs k (LooseDelete key) = Astray
+holder_by cells logs k (Pad n) = Astray
 
--- What the pool holds at a key.
+abbrev pub holder_from : (ℕ → ℕ) → (ℕ → List Placed) → ℕ → Found (Option Record) → Found (Option Record)
+holder_from cells logs k Astray = Astray
+holder_from cells logs k (Says None) = Says None
+holder_from cells logs k (Says (Some r)) = holder_by cells logs k r
+
+-- The record that holds the value of a key, or says that it has none: of the whole pool.
+abbrev pub holder : List ℕ → (ℕ → List Placed) → (ℕ → List ℕ) → ℕ → Found (Option Record)
+holder words logs chains k = holder_from (cell words) logs k (authority words logs chains k)
+
+-- ---- the value
+-- the value of the record that was found
+abbrev pub value_in : Found (Option Record) → Found (Option (List ℕ))
+value_in Astray = Astray
+value_in (Says None) = Says None
+value_in (Says (Some r)) = Says (value_of r)
+
+-- what an authority record, or what was found as the authority, says is held
+abbrev pub held_by : (ℕ → ℕ) → (ℕ → List Placed) → ℕ → Record → Found (Option (List ℕ))
+held_by cells logs k r = value_in (holder_by cells logs k r)
+
+abbrev pub held_from : (ℕ → ℕ) → (ℕ → List Placed) → ℕ → Found (Option Record) → Found (Option (List ℕ))
+held_from cells logs k found = value_in (holder_from cells logs k found)
+
+-- What the pool holds at a key: the value of its holder.
 abbrev pub held : List ℕ → (ℕ → List Placed) → (ℕ → List ℕ) → ℕ → Found (Option (List ℕ))
-held words logs chains k = held_from words logs k (authority words logs chains k)
+held words logs chains k = value_in (holder words logs chains k)

@@ -13,17 +13,17 @@ Stand words o (x ∷ xs) = (words o ≡ x) × Stand words (o + 1) xs
 
 -- A record lies within one segment, and a pad reaches to the segment's end.
 abbrev pub Fits : ℕ → Record → Type 0
-Fits o (Pad words) = o % 1024 + words ≡ 1024
+Fits o (Pad words) = o % 1024 + length_in_words (Pad words) ≡ 1024
 Fits o (Put key value) = o % 1024 + length_in_words (Put key value) ≤ 1024
-Fits o (Delete key) = o % 1024 + 2 ≤ 1024
-Fits o (Share key cell opening) = o % 1024 + 3 ≤ 1024
-Fits o (Unshare key at) = o % 1024 + 3 ≤ 1024
+Fits o (Delete key) = o % 1024 + length_in_words (Delete key) ≤ 1024
+Fits o (Share key cell opening) = o % 1024 + length_in_words (Share key cell opening) ≤ 1024
+Fits o (Unshare key at) = o % 1024 + length_in_words (Unshare key at) ≤ 1024
 Fits o (Loose key value) = o % 1024 + length_in_words (Loose key value) ≤ 1024
-Fits o (LooseDelete key) = o % 1024 + 2 ≤ 1024
+Fits o (LooseDelete key) = o % 1024 + length_in_words (LooseDelete key) ≤ 1024
 
 -- what is asked of a pad alone
 abbrev pub PadFits : ℕ → Record → Type 0
-PadFits o (Pad words) = o % 1024 + words ≡ 1024
+PadFits o (Pad words) = o % 1024 + length_in_words (Pad words) ≡ 1024
 PadFits o (Put key value) = Unit {0}
 PadFits o (Delete key) = Unit {0}
 PadFits o (Share key cell opening) = Unit {0}

@@ -23,9 +23,9 @@ is_plain (Pad words) = true
 abbrev pub left_in : ℕ → List Placed → Option (List ℕ)
 left_in k log = option_and_then value_of (unmerged k 0 log)
 
--- all words of the index are 0
+-- no bucket has a key, a place or a next one
 pub record IsEmptyIndex (words : List ℕ) : Type 0 where
-  pub each : (b i : ℕ) → b < 8192 → i < 8 → bucket words b i ≡ 0
+  pub each : (b i : ℕ) → b < 8192 → 0 < i → i < 8 → bucket words b i ≡ 0
 
 -- only lane n has a log, of plain records, and the index is empty
 pub record IsOneLog (words : List ℕ) (n : ℕ) (log : List Placed) : Type 0 where

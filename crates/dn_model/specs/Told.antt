@@ -1,12 +1,15 @@
 use Rattle.std.specs.Prelude.{◌≡◌, ◌⊎◌, ℕ, ◌<◌, List, [], Option, Some, None, true, length, slice_index_or}
 use Rattle.std.specs.FinMap.{get}
 use Rattle.dn_hist.specs.Calls.{Bytes}
-use Rattle.dn_model.specs.Regions.{mark, owner, home_of, bucket, IsLane}
+use Rattle.dn_model.specs.Regions.{mark, owner, cell, home_of, bucket, IsLane}
 use Rattle.dn_model.specs.Log.{Placed, IsLog, NoLog}
 use Rattle.dn_model.specs.Index.{IsChain, NoChain, index}
 use Rattle.dn_model.specs.Held.{Found, Says, Astray as NoSense, is_authority, unmerged, authority_by, held_from}
 use Rattle.dn_model.specs.declared.holdings.Held.{Held}
 use Rattle.dn_model.specs.declared.holdings.Held.TheVariants.{Astray, Nothing, Is}
+use Rattle.dn_model.specs.declared.holdings.Holder.{Holder}
+use Rattle.dn_model.specs.declared.holdings.Holder.TheVariants.{Astray as Lost, Nobody, Is as By}
+use Rattle.dn_record.specs.declared.records.Record.{Record}
 use Rattle.dn_model.specs.declared.maps.MapFault.{MapFault}
 use Rattle.dn_model.specs.declared.maps.MapFault.TheVariants.{Unreadable, OutOfMemory}
 
@@ -17,6 +20,12 @@ abbrev pub told : Held → Found (Option (List ℕ))
 told Astray = NoSense
 told Nothing = Says None
 told (Is value) = Says (Some value.now)
+
+-- and what a holder says that was found
+abbrev pub told_holder : Holder → Found (Option Record)
+told_holder Lost = NoSense
+told_holder Nobody = Says None
+told_holder (By entry) = Says (Some entry.now)
 
 -- logs by their lanes, from a list that begins with that of lane 0
 abbrev pub logs_of : List (List Placed) → ℕ → List Placed
@@ -29,7 +38,7 @@ chains_of chains home = slice_index_or chains home []
 -- what is held at a key, where these are the overflow buckets of its home
 abbrev pub held_with : List ℕ → (ℕ → List Placed) → List ℕ → ℕ → Found (Option (List ℕ))
 held_with words logs overflow k =
-    held_from words logs k (authority_by logs k (unmerged k (mark words (owner words k)) (logs (owner words k))) (index words overflow k))
+    held_from (cell words) logs k (authority_by logs k (unmerged k (mark words (owner words k)) (logs (owner words k))) (index words overflow k))
 
 -- the logs of the lanes below this number
 pub record AreLogs (words : List ℕ) (below : ℕ) (logs : List (List Placed)) : Type 0 where

@@ -4,8 +4,8 @@ ghost use Rattle.std.specs.Prelude.{◌≡◌, ◌<◌, ◌^◌, ◌&&◌, ℕ, 
 ghost use Rattle.std.specs.Option.{option_copied};
 ghost use Rattle.dn_model.specs.Regions.{mark, owner, cell};
 ghost use Rattle.dn_model.specs.Index.{index};
-ghost use Rattle.dn_model.specs.Held.{is_authority, unmerged, entry_at, record_at as record_at_of, value_in as value_in_of, named as named_of, held_by as held_by_of, held_from, indexed};
-ghost use Rattle.dn_model.specs.Told.{told, logs_of, held_with};
+ghost use Rattle.dn_model.specs.Held.{is_authority, is_holder, unmerged, entry_at, record_at as record_at_of, named as named_of, holder_by as holder_by_of, holder_from, value_in as value_in_of, indexed};
+ghost use Rattle.dn_model.specs.Told.{told, told_holder, logs_of, held_with};
 
 use crate::indexes::place_of;
 use crate::logs::{Placed, word};
@@ -13,15 +13,43 @@ use dn_record::Record;
 use dn_word::regions::{cell_at, deed_at, mark_at};
 use dn_word::{Deed, List, Ref, Value, slot_of};
 
-/// What is held at a key, or that the words lead astray.
-pub(crate) enum Held<'a> {
+/// What is held at a key.
+pub enum Held<'a> {
+    /// The words lead astray: the index to no authority record of the key, or a place to no value of it.
     Astray,
+    /// Nothing.
     Nothing,
+    /// This value.
     Is(&'a Value),
 }
 
-/// Whether a record is an authority record of the key.
-fn is_authority_of(entry: &Record, key: u64) -> bool
+/// Which record holds the value of a key, or says that it has none.
+pub enum Holder<'a> {
+    /// The words lead astray.
+    Astray,
+    /// No record does.
+    Nobody,
+    /// This record.
+    Is(&'a Record),
+}
+
+impl<'a> Holder<'a> {
+    /// The value that the record has.
+    pub fn held(self) -> Held<'a>
+        ensures { told result ≡ value_in_of (told_holder self.entry) }
+    {
+        match self {
+            Holder::Astray => Held::Astray,
+            Holder::Nobody => Held::Nothing,
+            Holder::Is(Record::Put { value, .. }) => Held::Is(value),
+            Holder::Is(Record::Loose { value, .. }) => Held::Is(value),
+            Holder::Is(_) => Held::Nothing,
+        }
+    }
+}
+
+/// Whether a record is an authority record of the key: one that says where its value is from then on.
+pub fn is_authority_of(entry: &Record, key: u64) -> bool
     ensures { result ≡ is_authority key entry.now }
 {
     match entry {
@@ -51,8 +79,8 @@ fn later<'a>(
     }
 }
 
-/// The last authority record of the key in the part of a log from the merged mark on.
-fn last_of(log: &[Placed], merged: u64, key: u64) -> Option<&Record>
+/// The last authority record of the key in the part of a log from the merged mark, in words, on.
+pub fn last_unmerged(log: &[Placed], merged: u64, key: u64) -> Option<&Record>
     ensures { option_copied result ≡ unmerged key merged log.now }
 {
     let mut last = None;
@@ -74,8 +102,8 @@ fn entry_in(log: &[Placed], offset: u32) -> Option<&Record>
     None
 }
 
-/// The sealed record that a place names.
-fn record_at(logs: &[List<Placed>], at: Option<Ref>) -> Option<&Record>
+/// The sealed record that a place names, where a record begins there. The logs are in the order of their lanes, from lane 0.
+pub fn sealed_at(logs: &[List<Placed>], at: Option<Ref>) -> Option<&Record>
     ensures { option_copied result ≡ record_at_of (logs_of logs.now) at }
 {
     match at {
@@ -87,60 +115,50 @@ fn record_at(logs: &[List<Placed>], at: Option<Ref>) -> Option<&Record>
     }
 }
 
-/// What a record names as the value of the key.
-fn value_in(entry: Option<&Record>, key: u64) -> Held<'_>
-    ensures { told result ≡ value_in_of key (option_copied entry.entry) }
+/// Whether a record is one of the key that has its value, or says that it has none.
+fn is_holder_of(entry: &Record, key: u64) -> bool
+    ensures { result ≡ is_holder key entry.now }
 {
     match entry {
-        Some(Record::Put { key: own, value }) => {
-            if *own == key {
-                Held::Is(value)
-            } else {
-                Held::Astray
-            }
-        }
-        Some(Record::Loose { key: own, value }) => {
-            if *own == key {
-                Held::Is(value)
-            } else {
-                Held::Astray
-            }
-        }
-        Some(Record::Delete { key: own }) | Some(Record::LooseDelete { key: own }) => {
-            if *own == key {
-                Held::Nothing
-            } else {
-                Held::Astray
-            }
-        }
-        _ => Held::Astray,
+        Record::Put { key: own, .. } | Record::Loose { key: own, .. } => *own == key,
+        Record::Delete { key: own } | Record::LooseDelete { key: own } => *own == key,
+        _ => false,
     }
 }
 
-/// What a place names as the value of the key.
-fn named(logs: &[List<Placed>], key: u64, at: Option<Ref>) -> Held<'_>
-    ensures { told result ≡ named_of (logs_of logs.now) key at }
+/// The record that a place names as the holder of the key's value: a record of the key that has its value or says that it
+/// has none. No place names nobody.
+pub fn holder_named(logs: &[List<Placed>], key: u64, at: Option<Ref>) -> Holder<'_>
+    ensures { told_holder result ≡ named_of (logs_of logs.now) key at }
 {
     match at {
-        None => Held::Nothing,
-        Some(_) => value_in(record_at(logs, at), key),
+        None => Holder::Nobody,
+        Some(_) => match sealed_at(logs, at) {
+            None => Holder::Astray,
+            Some(entry) => {
+                if is_holder_of(entry, key) {
+                    Holder::Is(entry)
+                } else {
+                    Holder::Astray
+                }
+            }
+        },
     }
 }
 
-/// What an authority record says is held.
-fn held_by<'a>(words: &[u64], logs: &'a [List<Placed>], key: u64, entry: &'a Record) -> Held<'a>
-    ensures { told result ≡ held_by_of words.now (logs_of logs.now) key entry.now }
+/// The holder that an authority record gives the key.
+fn holder_by<'a>(words: &[u64], logs: &'a [List<Placed>], key: u64, entry: &'a Record) -> Holder<'a>
+    ensures { told_holder result ≡ holder_by_of (cell words.now) (logs_of logs.now) key entry.now }
 {
     match entry {
-        Record::Put { value, .. } => Held::Is(value),
-        Record::Delete { .. } => Held::Nothing,
+        Record::Put { .. } | Record::Delete { .. } => Holder::Is(entry),
         Record::Share { cell, opening, .. } => {
             let word = word(words, cell_at(*cell) as u64);
             let word = if word == 0 { *opening } else { word };
-            named(logs, key, Ref::read(word))
+            holder_named(logs, key, Ref::read(word))
         }
-        Record::Unshare { at, .. } => named(logs, key, *at),
-        _ => Held::Astray,
+        Record::Unshare { at, .. } => holder_named(logs, key, *at),
+        _ => Holder::Astray,
     }
 }
 
@@ -152,29 +170,29 @@ fn pending<'a>(words: &[u64], logs: &'a [List<Placed>], key: u64) -> Option<&'a 
     let lane = Deed::read(word(words, deed_at(slot_of(key)) as u64)).lane;
     match logs.get(lane as usize) {
         None => None,
-        Some(log) => last_of(log.as_slice(), word(words, 128 + lane as u64), key),
+        Some(log) => last_unmerged(log.as_slice(), word(words, 128 + lane as u64), key),
     }
 }
 
-/// What is held by the index's place word.
-fn held_by_index<'a>(
+/// The holder by the index's place word.
+fn holder_by_index<'a>(
     words: &[u64],
     logs: &'a [List<Placed>],
     key: u64,
     place: Option<u64>,
-) -> Held<'a>
-    ensures { told result ≡ held_from words.now (logs_of logs.now) key
+) -> Holder<'a>
+    ensures { told_holder result ≡ holder_from (cell words.now) (logs_of logs.now) key
         (indexed (logs_of logs.now) key place) }
 {
     match place {
-        None => Held::Nothing,
-        Some(place) => match record_at(logs, Ref::read(place)) {
-            None => Held::Astray,
+        None => Holder::Nobody,
+        Some(place) => match sealed_at(logs, Ref::read(place)) {
+            None => Holder::Astray,
             Some(entry) => {
                 if is_authority_of(entry, key) {
-                    held_by(words, logs, key, entry)
+                    holder_by(words, logs, key, entry)
                 } else {
-                    Held::Astray
+                    Holder::Astray
                 }
             }
         },
@@ -191,8 +209,9 @@ pub(crate) fn held_at<'a>(
     requires { All (λ b. b < 8192) overflow.now }
     ensures { told result ≡ held_with words.now (logs_of logs.now) overflow.now key }
 {
-    match pending(words, logs, key) {
-        Some(entry) => held_by(words, logs, key, entry),
-        None => held_by_index(words, logs, key, place_of(words, overflow, key)),
-    }
+    let holder = match pending(words, logs, key) {
+        Some(entry) => holder_by(words, logs, key, entry),
+        None => holder_by_index(words, logs, key, place_of(words, overflow, key)),
+    };
+    holder.held()
 }

@@ -8,6 +8,7 @@ pub mod laws;
 mod logs;
 mod maps;
 
+pub use holdings::{Held, Holder, holder_named, is_authority_of, last_unmerged, sealed_at};
 pub use logs::Placed;
 pub use maps::{MapFault, pool_map};
 

@@ -11,5 +11,6 @@ pub mod Marks
 pub mod Sets
 pub mod Grants
 pub mod Tables
+pub mod Runs
 pub mod Merging
 pub mod Counting

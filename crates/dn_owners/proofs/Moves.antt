@@ -4,10 +4,10 @@ use Rattle.dn_word.specs.declared.packed.deed.Deed.{Deed}
 use Rattle.dn_record.specs.declared.records.Record.{Record}
 use Rattle.dn_record.specs.declared.records.Record.TheVariants.{Delete}
 use Rattle.dn_model.specs.declared.logs.Placed.{Placed}
-use Rattle.dn_model.specs.Held.{Found, Says, unmerged, authority_by}
+use Rattle.dn_model.specs.Held.{Found, Says, unmerged, authority_by, held_from}
 use Rattle.dn_model.specs.Regions.{slot_of}
 use Rattle.dn_store.specs.State.{StoreState}
-use Rattle.dn_store.specs.Holding.{owner_in, waiting, authority_in, said_from}
+use Rattle.dn_store.specs.Holding.{owner_in, waiting, authority_in}
 use Rattle.dn_owners.specs.Known.{Knows}
 use Rattle.dn_owners.specs.Sound.{IsTold, Agrees}
 use Rattle.dn_owners.specs.Later.{Forgets}
@@ -35,10 +35,10 @@ pub told_moved : (log : List Placed) (gate : Gate) (deeds : ℕ → Deed) (old n
     → IsTold log gate deeds old n v → IsTold log gate deeds new n v
 told_moved log gate deeds old new n v m h = record { each = λ k c r w q e u. agrees_moved k (old k) (new k) r (m k) (h.each k c r w q e u) }
 
-pub said_moved : (cells : ℕ → ℕ) (logs : ℕ → List Placed) (k : ℕ) (old new : Found (Option Record)) → Moves old new k → said_from cells logs k new ≡ said_from cells logs k old
+pub said_moved : (cells : ℕ → ℕ) (logs : ℕ → List Placed) (k : ℕ) (old new : Found (Option Record)) → Moves old new k → held_from cells logs k new ≡ held_from cells logs k old
 said_moved cells logs k old new m = elim m [
-  | inl e ↦ ap (said_from cells logs k) e
-  | inr d ↦ ap (said_from cells logs k) d.1 ∙ sym (ap (said_from cells logs k) d.0)
+  | inl e ↦ ap (held_from cells logs k) e
+  | inr d ↦ ap (held_from cells logs k) d.1 ∙ sym (ap (held_from cells logs k) d.0)
 ]
 
 -- deeds that name the same lane

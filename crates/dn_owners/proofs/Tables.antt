@@ -9,9 +9,9 @@ use Rattle.dn_record.specs.declared.records.Record.TheVariants.{Put, Delete, Sha
 use Rattle.dn_model.specs.Regions.{slot_of}
 use Rattle.dn_model.specs.OneLog.{is_plain}
 use Rattle.dn_model.specs.declared.logs.Placed.{Placed}
-use Rattle.dn_model.specs.Held.{Found, Says, Astray, is_authority, unmerged, record_at, named, value_in, cell_word}
+use Rattle.dn_model.specs.Held.{Found, Says, Astray, is_authority, unmerged, record_at, holder_at, holder_from, value_in, held_by, held_from, named, cell_word}
 use Rattle.dn_store.specs.State.{with_at}
-use Rattle.dn_store.specs.Holding.{owner_in, authority_in, said_by, said_from}
+use Rattle.dn_store.specs.Holding.{owner_in, authority_in}
 use Rattle.dn_store.proofs.At.{at_same, at_by}
 use Rattle.dn_owners.specs.Known.{Look, Owners}
 use Rattle.dn_owners.specs.Sound.{IsOrdered, IsSound, Agrees}
@@ -75,31 +75,44 @@ authority_after o (Stop n) k i h g = refl
 authority_after o (Begin n) k i h g = refl
 
 -- ---- what a record says is held: a place that names something names it behind longer logs too
-value_some : (k : ℕ) (o : Option Record) (v : Option (List ℕ)) → value_in k o ≡ Says v → (r : Record) × (o ≡ Some r)
-value_some k None v e = absurd (astray_not v e) where
+found_some : (k : ℕ) (o h : Option Record) → holder_at k o ≡ Says h → (r : Record) × (o ≡ Some r)
+found_some k None h e = absurd (astray_not h e) where
+  astray_not : (h : Option Record) → (let x : Found (Option Record) = Astray in x) ≡ Says h → ⊥
+  astray_not h e = absurd (cc e)
+found_some k (Some r) h e = (r, refl)
+
+named_more : (logs : ℕ → List Placed) (n : ℕ) (more : List Placed) (k : ℕ) (at : Option Ref) (h : Option Record) → named logs k at ≡ Says h → named (with_at logs n (logs n ++ more)) k at ≡ Says h
+named_more logs n more k None h e = e
+named_more logs n more k (Some at) h e =
+    let r = found_some k (record_at logs (Some at)) h e in
+    ap (holder_at k) (record_more logs n more (Some at) r.0 r.1 ∙ sym r.1) ∙ e
+
+holder_more : (cells : ℕ → ℕ) (logs : ℕ → List Placed) (n : ℕ) (more : List Placed) (k : ℕ) (f : Found (Option Record)) (h : Option Record) → holder_from cells logs k f ≡ Says h
+    → holder_from cells (with_at logs n (logs n ++ more)) k f ≡ Says h
+holder_more cells logs n more k Astray h e = e
+holder_more cells logs n more k (Says None) h e = e
+holder_more cells logs n more k (Says (Some (Put key value))) h e = e
+holder_more cells logs n more k (Says (Some (Delete key))) h e = e
+holder_more cells logs n more k (Says (Some (Share key j w))) h e = named_more logs n more k (ref_of (cell_word w (cells j))) h e
+holder_more cells logs n more k (Says (Some (Unshare key at))) h e = named_more logs n more k at h e
+holder_more cells logs n more k (Says (Some (Loose key value))) h e = e
+holder_more cells logs n more k (Says (Some (LooseDelete key))) h e = e
+holder_more cells logs n more k (Says (Some (Pad words))) h e = e
+
+-- where a value is said, some holder is found
+says_of : (x : Found (Option Record)) (v : Option (List ℕ)) → value_in x ≡ Says v → (h : Option Record) × (x ≡ Says h)
+says_of Astray v e = absurd (astray_not v e) where
   astray_not : (v : Option (List ℕ)) → (let x : Found (Option (List ℕ)) = Astray in x) ≡ Says v → ⊥
   astray_not v e = absurd (cc e)
-value_some k (Some r) v e = (r, refl)
+says_of (Says h) v e = (h, refl)
 
-named_more : (logs : ℕ → List Placed) (n : ℕ) (more : List Placed) (k : ℕ) (at : Option Ref) (v : Option (List ℕ)) → named logs k at ≡ Says v → named (with_at logs n (logs n ++ more)) k at ≡ Says v
-named_more logs n more k None v e = e
-named_more logs n more k (Some at) v e =
-    let r = value_some k (record_at logs (Some at)) v e in
-    ap (value_in k) (record_more logs n more (Some at) r.0 r.1 ∙ sym r.1) ∙ e
+said_more : (cells : ℕ → ℕ) (logs : ℕ → List Placed) (n : ℕ) (more : List Placed) (k : ℕ) (f : Found (Option Record)) (v : Option (List ℕ)) → held_from cells logs k f ≡ Says v
+    → held_from cells (with_at logs n (logs n ++ more)) k f ≡ Says v
+said_more cells logs n more k f v e =
+    let h = says_of (holder_from cells logs k f) v e in
+    ap value_in (holder_more cells logs n more k f h.0 h.1 ∙ sym h.1) ∙ e
 
-said_more : (cells : ℕ → ℕ) (logs : ℕ → List Placed) (n : ℕ) (more : List Placed) (k : ℕ) (f : Found (Option Record)) (v : Option (List ℕ)) → said_from cells logs k f ≡ Says v
-    → said_from cells (with_at logs n (logs n ++ more)) k f ≡ Says v
-said_more cells logs n more k Astray v e = e
-said_more cells logs n more k (Says None) v e = e
-said_more cells logs n more k (Says (Some (Put key value))) v e = e
-said_more cells logs n more k (Says (Some (Delete key))) v e = e
-said_more cells logs n more k (Says (Some (Share key j w))) v e = named_more logs n more k (ref_of (cell_word w (cells j))) v e
-said_more cells logs n more k (Says (Some (Unshare key at))) v e = named_more logs n more k at v e
-said_more cells logs n more k (Says (Some (Loose key value))) v e = e
-said_more cells logs n more k (Says (Some (LooseDelete key))) v e = e
-said_more cells logs n more k (Says (Some (Pad words))) v e = e
-
-plain_said : (cells : ℕ → ℕ) (logs : ℕ → List Placed) (k : ℕ) (r : Record) → is_authority k r ≡ true → is_plain r ≡ true → said_by cells logs k r ≡ Says (value_of r)
+plain_said : (cells : ℕ → ℕ) (logs : ℕ → List Placed) (k : ℕ) (r : Record) → is_authority k r ≡ true → is_plain r ≡ true → held_by cells logs k r ≡ Says (value_of r)
 plain_said cells logs k (Put key value) a p = refl
 plain_said cells logs k (Delete key) a p = refl
 plain_said cells logs k (Share key j opening) a p = absurd (false≢true p)
@@ -118,25 +131,25 @@ held_after o (Seal n gate more) k i h g =
     let z : IsOwnSeal o n more = own_seal o n gate more i h g in
     let logs : ℕ → List Placed = with_at o.store.logs n (o.store.logs n ++ more) in
     record {
-      other = λ v e f. ap (said_from o.store.cells logs k) (authority_old o n k gate more z e) ∙ said_more o.store.cells o.store.logs n more k (authority_in o.store k) v f;
-      last = λ r e. ap (said_from o.store.cells logs k) (authority_new o n k gate more r z e);
+      other = λ v e f. ap (held_from o.store.cells logs k) (authority_old o n k gate more z e) ∙ said_more o.store.cells o.store.logs n more k (authority_in o.store k) v f;
+      last = λ r e. ap (held_from o.store.cells logs k) (authority_new o n k gate more r z e);
       plain = λ r e f.
           let c = last_found k 0 more r e in
-          ap (said_from o.store.cells logs k) (authority_new o n k gate more r z e)
+          ap (held_from o.store.cells logs k) (authority_new o n k gate more r z e)
           ∙ plain_said o.store.cells logs k r (ap (is_authority k) (sym c.is) ∙ c.found.authority) f;
     }
 held_after o (Promise n q stamp) k i h g = refl
 held_after o (Trim n to) k i h g = refl
-held_after o (Set n q p place) k i h g = ap (said_from o.store.cells o.store.logs k) (authority_after o (Set n q p place) k i h g)
+held_after o (Set n q p place) k i h g = ap (held_from o.store.cells o.store.logs k) (authority_after o (Set n q p place) k i h g)
 held_after o (Pass n to p) k i h g =
     let now = (happens o (Pass n to p)).store in
     said_moved o.store.cells o.store.logs k (authority_in o.store k) (authority_in now k) (moves_past p (authority_in o.store k) (authority_in now k) k (authority_after o (Pass n to p) k i h g))
 held_after o (Fence n gate) k i h g = refl
-held_after o (Leave t d) k i h g = ap (said_from o.store.cells o.store.logs k) (authority_after o (Leave t d) k i h g)
-held_after o (Release t d) k i h g = ap (said_from o.store.cells o.store.logs k) (authority_after o (Release t d) k i h g)
+held_after o (Leave t d) k i h g = ap (held_from o.store.cells o.store.logs k) (authority_after o (Leave t d) k i h g)
+held_after o (Release t d) k i h g = ap (held_from o.store.cells o.store.logs k) (authority_after o (Release t d) k i h g)
 held_after o (Watches w) k i h g = refl
-held_after o (Grant w d) k i h g = ap (said_from o.store.cells o.store.logs k) (authority_after o (Grant w d) k i h g)
-held_after o (Adopt t d) k i h g = ap (said_from o.store.cells o.store.logs k) (authority_after o (Adopt t d) k i h g)
+held_after o (Grant w d) k i h g = ap (held_from o.store.cells o.store.logs k) (authority_after o (Grant w d) k i h g)
+held_after o (Adopt t d) k i h g = ap (held_from o.store.cells o.store.logs k) (authority_after o (Adopt t d) k i h g)
 held_after o (Stop n) k i h g = refl
 held_after o (Begin n) k i h g = refl
 

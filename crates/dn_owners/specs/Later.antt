@@ -4,9 +4,9 @@ use Rattle.dn_record.specs.Record.{value_of}
 use Rattle.dn_record.specs.declared.records.Record.{Record}
 use Rattle.dn_record.specs.declared.records.Record.TheVariants.{Delete}
 use Rattle.dn_model.specs.declared.logs.Placed.{Placed}
-use Rattle.dn_model.specs.Held.{Found, Says, unmerged}
+use Rattle.dn_model.specs.Held.{Found, Says, unmerged, held_by}
 use Rattle.dn_model.specs.OneLog.{is_plain}
-use Rattle.dn_store.specs.Holding.{owner_in, authority_in, said_by, holds}
+use Rattle.dn_store.specs.Holding.{owner_in, authority_in, holds}
 use Rattle.dn_owners.specs.Known.{Owners}
 use Rattle.dn_owners.specs.Events.{Event, Look_known, Look_new, End, Raise, Seal, Promise, Trim, Set, Pass, Fence, Leave, Release, Watches, Grant, Adopt, Stop, Begin, happens}
 
@@ -69,7 +69,7 @@ pub record IsHeldAfterSeal (o : Owners) (n : ℕ) (gate : Gate) (more : List Pla
       → holds (happens o (Seal n gate more)).store k ≡ Says v
   pub last : (r : Record) → unmerged k 0 more ≡ Some r
       → holds (happens o (Seal n gate more)).store k
-      ≡ said_by o.store.cells (happens o (Seal n gate more)).store.logs k r
+      ≡ held_by o.store.cells (happens o (Seal n gate more)).store.logs k r
   pub plain : (r : Record) → unmerged k 0 more ≡ Some r → is_plain r ≡ true
       → holds (happens o (Seal n gate more)).store k ≡ Says (value_of r)
 

@@ -6,3 +6,5 @@ pub mod Given
 pub mod Later
 pub mod Merging
 pub mod Fresh
+pub mod Runs
+pub mod Moving

@@ -1,15 +1,15 @@
 //! What is so of owners, as functions without work: what each says is its contract. The order of a log's offsets is
 //! given by the words that represent the store.
 
-ghost use Rattle.std.specs.Prelude.{◌≡◌, ℕ, false, List, Option, Some, None};
+ghost use Rattle.std.specs.Prelude.{◌≡◌, ◌++◌, ◌∷◌, [], ℕ, false, List, Option, Some, None};
 ghost use Rattle.dn_record.specs.declared.records.Record.{Record};
 ghost use Rattle.dn_model.specs.declared.logs.Placed.{Placed};
-ghost use Rattle.dn_model.specs.Held.{indexed};
+ghost use Rattle.dn_model.specs.Held.{Says, indexed};
 ghost use Rattle.dn_model.specs.Regions.{home_of, slot_of};
 ghost use Rattle.dn_store.specs.State.{StoreState};
 ghost use Rattle.dn_store.specs.Represents.{Represents};
 ghost use Rattle.dn_store.specs.Fresh.{IsFreshPool};
-ghost use Rattle.dn_store.specs.Holding.{owner_in, waiting, authority_in};
+ghost use Rattle.dn_store.specs.Holding.{owner_in, waiting, authority_in, holds};
 ghost use Rattle.dn_owners.specs.declared.plain.Pending.{Pending};
 ghost use Rattle.dn_owners.specs.Counting.{last_counting};
 ghost use Rattle.dn_owners.specs.Known.{Look, Learnt, Owners};
@@ -19,6 +19,8 @@ ghost use Rattle.dn_owners.specs.Given.{IsGiven};
 ghost use Rattle.dn_owners.specs.Later.{IsLater, AuthorityAfter, HeldAfter};
 ghost use Rattle.dn_owners.specs.Merging.{IsWaiting, IndexAfter, IsRecordOf};
 ghost use Rattle.dn_owners.specs.Fresh.{fresh_owners};
+ghost use Rattle.dn_owners.specs.Runs.{IsRun, after};
+ghost use Rattle.dn_owners.specs.Moving.{opened, putting, merging, leaving, released, loading, granting, returning, moving};
 
 /// The owners that an opening for 1 to 63 lanes leaves are sound; and a store that words represent has logs in order.
 pub fn opening()
@@ -26,6 +28,32 @@ pub fn opening()
         → IsFreshPool words pool lanes owners → IsSound (fresh_owners pool lanes owners) }
     ensures ordered { (words : List ℕ) (chains : ℕ → List ℕ) (s : StoreState)
         → Represents words chains s → IsOrdered s.logs s.gates s.marks }
+{}
+
+/// A run by hand of a slot that moves, so that no law here stands over a premise that nothing meets: a put that is
+/// merged, Leaving, Released, the load of the gate, the grant, and the look of the new owner, each as its premise asks.
+/// Then the put is still what is held, and lane 2 owns the key.
+pub fn run()
+    ensures given { (pool : ℕ) → IsRun (opened pool)
+        (putting ++ merging ++ leaving ++ released ++ loading ++ granting 2 1) }
+    ensures sound { (pool : ℕ) → IsSound (after (opened pool) moving) }
+    ensures owner { (pool : ℕ) → owner_in (after (opened pool) moving).store 5 ≡ 2 }
+    ensures held { (pool : ℕ) → holds (after (opened pool) moving).store 5 ≡ Says (Some (97 ∷ [])) }
+    ensures runs { (o : Owners) (es : List Event) → IsSound o → IsRun o es → IsSound (after o es) }
+{}
+
+/// The same run with one thing left out, and the state to which it leads isn't sound: the log isn't merged before the
+/// grant; the floor forgets the stamp of the gate; the gate is loaded while the slot is Leaving; the slot goes and comes
+/// back in one epoch. So the parts say something, and these premises are needed.
+pub fn wrong_runs()
+    ensures unmerged { (pool : ℕ) → IsSound (after (opened pool)
+        (putting ++ leaving ++ released ++ loading ++ granting 2 1)) → ⊥ }
+    ensures forgetful { (pool : ℕ) → IsSound (after (opened pool)
+        (putting ++ merging ++ leaving ++ released ++ loading ++ granting 2 0)) → ⊥ }
+    ensures early { (pool : ℕ) → IsSound (after (opened pool)
+        (putting ++ merging ++ leaving ++ loading)) → ⊥ }
+    ensures same_epoch { (pool : ℕ) → IsSound (after (opened pool)
+        (putting ++ merging ++ leaving ++ released ++ loading ++ granting 1 1 ++ returning 1)) → ⊥ }
 {}
 
 /// Each event keeps every part; logs, gates, marks, epochs, floors and promised stamps only grow.

@@ -1,7 +1,7 @@
-use Rattle.std.specs.Prelude.{ℕ, List, [], ◌∷◌, ◌+◌, Option, Some, None, length}
+use Rattle.std.specs.Prelude.{ℕ, List, [], ◌∷◌, Option, Some, None, length}
 use Rattle.dn_word.specs.Ref.{ref_part}
-use Rattle.dn_record.specs.Values.{words_for, value_words}
-use Rattle.dn_record.specs.Head.{head_word}
+use Rattle.dn_record.specs.Values.{value_words}
+use Rattle.dn_record.specs.Head.{head_word, head_words}
 use Rattle.dn_record.specs.declared.heads.Head.{Head}
 use Rattle.dn_record.specs.declared.heads.Head.TheVariants.{Put as PutHead, Delete as DeleteHead, Share as ShareHead, Unshare as UnshareHead, Loose as LooseHead, LooseDelete as LooseDeleteHead, Pad as PadHead}
 use Rattle.dn_record.specs.declared.records.Record.{Record}
@@ -33,24 +33,18 @@ content (Pad words) = []
 abbrev pub spelling : Record → List ℕ
 spelling r = head_word (head_of r) ∷ content r
 
--- a record's length in words
+-- a record's length in words: that which its header says
 abbrev pub length_in_words : Record → ℕ
-length_in_words (Put key value) = 2 + words_for (length value)
-length_in_words (Delete key) = 2
-length_in_words (Share key cell opening) = 3
-length_in_words (Unshare key at) = 3
-length_in_words (Loose key value) = 2 + words_for (length value)
-length_in_words (LooseDelete key) = 2
-length_in_words (Pad words) = words
+length_in_words r = head_words (head_of r)
 
 -- the length of a record's spelling: of a pad the header alone
 abbrev pub spelled_words : Record → ℕ
-spelled_words (Put key value) = 2 + words_for (length value)
-spelled_words (Delete key) = 2
-spelled_words (Share key cell opening) = 3
-spelled_words (Unshare key at) = 3
-spelled_words (Loose key value) = 2 + words_for (length value)
-spelled_words (LooseDelete key) = 2
+spelled_words (Put key value) = length_in_words (Put key value)
+spelled_words (Delete key) = length_in_words (Delete key)
+spelled_words (Share key cell opening) = length_in_words (Share key cell opening)
+spelled_words (Unshare key at) = length_in_words (Unshare key at)
+spelled_words (Loose key value) = length_in_words (Loose key value)
+spelled_words (LooseDelete key) = length_in_words (LooseDelete key)
 spelled_words (Pad words) = 1
 
 -- the key that a record speaks of

@@ -12,18 +12,20 @@ use Rattle.dn_store.specs.Represents.{Represents}
 use Rattle.dn_store.proofs.Stores.{IsStored, is_stored}
 use Rattle.dn_store.proofs.Frames.{first_or_behind, log_stays, chain_stays, space_stays, overflow_stays}
 use Rattle.dn_store.proofs.Standings.{IsShaped, stored_shape, index_stays, index_changes, key_stays, place_stays, loose_stays, only_place, stands_none}
+use Rattle.dn_store.proofs.Unused.{unused_stays, used_bucket}
 use Rattle.dn_store.proofs.Tables.{table_beside}
 
 -- A word of a bucket is stored.
 
 -- ---- of the store, index, chains and buckets alone may change
-pub bucket_word : (words now : List ℕ) (chains after : ℕ → List ℕ) (s : StoreState) (b w new : ℕ) (index : ℕ → Option ℕ) (takers : ℕ → ℕ) → Represents words chains s → b < 8192 → w < 8
+pub bucket_word : (words now : List ℕ) (chains after : ℕ → List ℕ) (s : StoreState) (b w new : ℕ) (index : ℕ → Option ℕ) (takers : ℕ → ℕ) → Represents words chains s → b < 8192 → 0 < w → w < 8
     → IsStored words now (bucket_at b w) new → ((home : ℕ) → home < 4096 → IsChain now home (after home)) → IsIndexed now after index → IsOverflow now after s.bucket_count takers
     → Represents now after (record s { index = index; takers = takers })
-bucket_word words now chains after s b w new index takers h bl wl st leads i o =
+bucket_word words now chains after s b w new index takers h bl lo wl st leads i o =
     let at : ℕ = bucket_at b w in
     record {
       table = table_beside words now s index takers at new st (omega arith) h.table;
+      unused = unused_stays words now at new st (used_bucket b w lo wl) h.unused;
       reads = record {
         logs_are = λ n l. log_stays words now at new n (s.logs n) st (λ e. absurd (omega (arith, e, l.below))) (λ q lt _ e. absurd (omega (arith, e, lt, l.below)))
             (λ o lt pos e. absurd (omega (arith, e, pos, bl, wl))) (h.reads.logs_are n l);
@@ -41,12 +43,12 @@ pub bucket_stored : (words : List ℕ) (chains : ℕ → List ℕ) (s : StoreSta
 bucket_stored words chains s b w new h bl wl = let size = h.table.size in is_stored words (bucket_at b w) new (omega (arith, size, bl, wl))
 
 -- ---- a key word or a place word: the chains stay
-slot_word : (words : List ℕ) (chains : ℕ → List ℕ) (s : StoreState) (b w new : ℕ) (index : ℕ → Option ℕ) → Represents words chains s → b < 8192 → w < 7
+slot_word : (words : List ℕ) (chains : ℕ → List ℕ) (s : StoreState) (b w new : ℕ) (index : ℕ → Option ℕ) → Represents words chains s → b < 8192 → 0 < w → w < 7
     → IsIndexed (slice_set words (bucket_at b w) new) chains index → IsOverflow (slice_set words (bucket_at b w) new) chains s.bucket_count s.takers
     → Represents (slice_set words (bucket_at b w) new) chains (record s { index = index; takers = s.takers })
-slot_word words chains s b w new index h bl wl =
+slot_word words chains s b w new index h bl lo wl =
     let st = bucket_stored words chains s b w new h bl (omega (arith, wl)) in
-    bucket_word words (slice_set words (bucket_at b w) new) chains chains s b w new index s.takers h bl (omega (arith, wl)) st
+    bucket_word words (slice_set words (bucket_at b w) new) chains chains s b w new index s.takers h bl lo (omega (arith, wl)) st
     (λ home lt. chain_stays words (slice_set words (bucket_at b w) new) home (chains home) (λ c _. st.other (bucket_at c 7) (λ e. absurd (omega (arith, e, wl)))) (h.reads.chains_are home lt))
 
 -- a bucket of a chain was claimed, and no merger has it as its own
@@ -92,7 +94,7 @@ place_filled words chains s k b i new h at free =
     let bl = h.indexed.below (home_of k) b (home_below k) at.has in
     let st = bucket_stored words chains s b (i + 4) new h bl (omega (arith, il)) in
     let now : List ℕ = slice_set words (bucket_at b (i + 4)) new in
-    slot_word words chains s b (i + 4) new s.index h bl (omega (arith, il))
+    slot_word words chains s b (i + 4) new s.index h bl (omega arith) (omega (arith, il))
     (index_stays words now chains chains s.index h.indexed (place_shape words now chains s.index b i new il h.indexed st)
     (λ q pos. place_stays words now chains b i new q il st (λ e. absurd (omega (arith, e, free, pos)))))
     (place_overflow words chains s k b i (i + 4) new h at (omega (arith, il)))
@@ -106,7 +108,7 @@ place_replaced words chains s k b i new h kp at is =
     let st = bucket_stored words chains s b (i + 4) new h bl (omega (arith, il)) in
     let now : List ℕ = slice_set words (bucket_at b (i + 4)) new in
     let key : (c j : ℕ) → j < 3 → bucket now c (j + 1) ≡ bucket words c (j + 1) = λ c j jl. st.other (bucket_at c (j + 1)) (λ e. absurd (omega (arith, e, il, jl))) in
-    slot_word words chains s b (i + 4) new (with_at s.index k (Some new)) h bl (omega (arith, il))
+    slot_word words chains s b (i + 4) new (with_at s.index k (Some new)) h bl (omega arith) (omega (arith, il))
     (index_changes words now chains chains s.index k (Some new) h.indexed (place_shape words now chains s.index b i new il h.indexed st)
     (λ q pos d. place_stays words now chains b i new q il st (λ e. d (sym e ∙ is)))
     (record {
@@ -128,7 +130,7 @@ key_stored words chains s k b i h kp at free absent =
     let bl = h.indexed.below (home_of k) b hl at.has in
     let st = bucket_stored words chains s b (i + 1) k h bl (omega (arith, il)) in
     let now : List ℕ = slice_set words (bucket_at b (i + 1)) k in
-    slot_word words chains s b (i + 1) k (with_at s.index k (Some (bucket words b (i + 4)))) h bl (omega (arith, il))
+    slot_word words chains s b (i + 1) k (with_at s.index k (Some (bucket words b (i + 4)))) h bl (omega arith) (omega (arith, il))
     (index_changes words now chains chains s.index k (Some (bucket words b (i + 4))) h.indexed
     (stored_shape words now chains s.index (bucket_at b (i + 1)) k h.indexed st (λ home c j lt m jl e _.
     let same : c ≡ b = omega (arith, e, il, jl) in
@@ -156,7 +158,7 @@ key_cleared words chains s k b i h kp at is =
     let bl = h.indexed.below (home_of k) b (home_below k) at.has in
     let st = bucket_stored words chains s b (i + 1) 0 h bl (omega (arith, il)) in
     let now : List ℕ = slice_set words (bucket_at b (i + 1)) 0 in
-    slot_word words chains s b (i + 1) 0 (with_at s.index k None) h bl (omega (arith, il))
+    slot_word words chains s b (i + 1) 0 (with_at s.index k None) h bl (omega arith) (omega (arith, il))
     (index_changes words now chains chains s.index k None h.indexed (stored_shape words now chains s.index (bucket_at b (i + 1)) 0 h.indexed st (λ home c j _ _ _ _ pos. absurd (omega (arith, pos))))
     (λ q pos d. key_stays words now chains b i 0 q il st (λ e. d (sym e ∙ is)) (λ e. absurd (omega (arith, e, pos))))
     (λ c j p e. elim (cases_eq (bucket_at c (j + 1)) (bucket_at b (i + 1))) [
@@ -173,7 +175,7 @@ own_word words chains s c w new h pos either wl =
     let now : List ℕ = slice_set words (bucket_at c w) new in
     let st = bucket_stored words chains s c w new h t.2 (omega (arith, wl)) in
     let loose : (home : ℕ) → home < 4096 → InChain chains home c → ⊥ = λ home lt m. taken_in_none words chains s.bucket_count s.takers home c o pos lt m in
-    slot_word words chains s c w new s.index h t.2 wl
+    slot_word words chains s c w new s.index h t.2 (elim either [ inl x ↦ omega (arith, x) | inr x ↦ omega (arith, x) ]) wl
     (index_stays words now chains chains s.index h.indexed
     (stored_shape words now chains s.index (bucket_at c w) new h.indexed st (λ home d j lt m jl e _.
     let same : d ≡ c = omega (arith, e, jl, wl) in

@@ -11,6 +11,7 @@ use Rattle.dn_store.specs.Overflow.{IsOverflow}
 use Rattle.dn_store.specs.Represents.{IsTable, Represents}
 use Rattle.dn_store.proofs.At.{at_other, at_by}
 use Rattle.dn_store.proofs.Stores.{is_stored, aside, inside}
+use Rattle.dn_store.proofs.Unused.{used_counter, used_lane}
 use Rattle.dn_store.proofs.Tables.{itself, one_aside, one_inside, table_changed, table_log}
 
 -- The counters of claims, and the words of cells.
@@ -28,6 +29,7 @@ segments_counted words chains s holders h space =
     table_changed words now chains s (record s { segment_count = new; holders = holders }) 1 new (record {
       stored = st;
       low = omega arith;
+      used = used_counter 1 (omega arith);
       turned = record {
         pool = refl;
         format = λ e. absurd (omega (arith, e));
@@ -79,6 +81,7 @@ cells_counted words chains s holders h space =
     table_changed words now chains s (record s { cell_count = new; cell_holders = holders }) 2 new (record {
       stored = st;
       low = omega arith;
+      used = used_counter 2 (omega arith);
       turned = record {
         pool = refl;
         format = λ e. absurd (omega (arith, e));
@@ -128,6 +131,7 @@ buckets_counted words chains s takers h over =
     table_changed words now chains s (record s { bucket_count = new; takers = takers }) 3 new (record {
       stored = st;
       low = omega arith;
+      used = used_counter 3 (omega arith);
       turned = record {
         pool = refl;
         format = λ e. absurd (omega (arith, e));
@@ -188,6 +192,7 @@ cell_stored words chains s j new h lt claimed =
     table_changed words now chains s (celled s j new) (cell_at j) new (record {
       stored = st;
       low = omega (arith, lt);
+      used = used_lane (cell_at j) (omega arith) (omega (arith, lt)) (λ e. absurd (omega (arith, e)));
       turned = record {
         pool = refl;
         format = λ e. absurd (omega (arith, e));
@@ -221,6 +226,7 @@ key_word_stored words chains s j k h lt claimed =
     table_changed words now chains s (cell_keyed s j k) (cell_key_at j) k (record {
       stored = st;
       low = omega (arith, lt);
+      used = used_lane (cell_key_at j) (omega arith) (omega (arith, lt)) (λ e. absurd (omega (arith, e)));
       turned = record {
         pool = refl;
         format = λ e. absurd (omega (arith, e));

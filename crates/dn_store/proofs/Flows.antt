@@ -10,24 +10,27 @@ use Rattle.dn_model.proofs.HashLaws.{home_below}
 use Rattle.dn_store.specs.State.{StoreState}
 use Rattle.dn_store.specs.Space.{IsSpace}
 use Rattle.dn_store.specs.Standing.{IsPlaceOf}
+use Rattle.dn_store.specs.Unused.{IsUsed}
 use Rattle.dn_store.specs.Represents.{Represents}
 use Rattle.dn_store.proofs.Stores.{IsStored, is_stored}
 use Rattle.dn_store.proofs.Frames.{log_stays, chain_stays, space_stays, overflow_stays}
 use Rattle.dn_store.proofs.Standings.{index_stays, stored_shape}
+use Rattle.dn_store.proofs.Unused.{unused_stays, used_directory, used_segment}
 use Rattle.dn_store.proofs.Tables.{table_beside}
 
 -- A staged word flows to a directory or a segment: the store stays.
 
 -- a word behind the table and beside the buckets is stored
-flowed : (words now : List ℕ) (chains : ℕ → List ℕ) (s : StoreState) (at new : ℕ) → Represents words chains s → IsStored words now at new → 768 ≤ at → ((b i : ℕ) → b < 8192 → i < 8 → bucket_at b i ≢ at)
+flowed : (words now : List ℕ) (chains : ℕ → List ℕ) (s : StoreState) (at new : ℕ) → Represents words chains s → IsStored words now at new → 768 ≤ at → IsUsed at → ((b i : ℕ) → b < 8192 → i < 8 → bucket_at b i ≢ at)
     → ((n : ℕ) → IsLane n → IsLog now n (s.logs n)) → IsSpace now s.pool s.segment_count s.holders → Represents now chains s
-flowed words now chains s at new h st high apart logs space =
+flowed words now chains s at new h st high used apart logs space =
     let x = h.indexed in
     let o = h.overflow in
     let stays = λ (b i : ℕ) (lt : b < 8192) (il : i < 8). st.other (bucket_at b i) (apart b i lt il) in
     let key = λ (k b i : ℕ) (p : IsPlaceOf chains k b i). stays b (i + 1) (x.below (home_of k) b (home_below k) p.has) (omega (arith, p.three)) in
     record {
       table = table_beside words now s s.index s.takers at new st high h.table;
+      unused = unused_stays words now at new st used h.unused;
       reads = record {
         logs_are = logs;
         no_more = h.reads.no_more;
@@ -55,7 +58,7 @@ segment_flow words chains s n g o word h l own past =
     let size = h.table.size in
     let il = mod_below o 1024 (omega arith) in
     let st = is_stored words at word (omega (arith, size, il, c.1)) in
-    flowed words now chains s at word h st (omega arith) (λ b j lt jl e. absurd (omega (arith, e, lt, jl)))
+    flowed words now chains s at word h st (omega arith) (used_segment at (omega arith)) (λ b j lt jl e. absurd (omega (arith, e, lt, jl)))
     (λ m k. log_stays words now at word m (s.logs m) st (λ e. absurd (omega (arith, e, k.below))) (λ q ql _ e. absurd (omega (arith, e, ql, k.below)))
     (λ p below pos e.
     let covered = (h.reads.logs_are m k).covered p below in
@@ -86,7 +89,7 @@ directory_flow words chains s n q g h l ql own free fresh =
       | inr d ↦ inr (d, st.other (directory_at m r) d)
     ] in
     let unnamed : (m r : ℕ) → r < 256 → m ≡ n → directory words m r ≢ g + 1 = λ m r rl e. (let P : ℕ → Type 0 = λ x. directory words x r ≢ g + 1 in subst P (sym e) (fresh r rl)) in
-    flowed words now chains s at (g + 1) h st (omega arith) (λ b i lt il e. absurd (omega (arith, e, ql, l.below)))
+    flowed words now chains s at (g + 1) h st (omega arith) (used_directory n q l ql) (λ b i lt il e. absurd (omega (arith, e, ql, l.below)))
     (λ m k. log_stays words now at (g + 1) m (s.logs m) st (λ e. absurd (omega (arith, e, k.below)))
     (λ r rl pos e. let same = same_from_place m r n q 256 rl ql (omega (arith, e)) in absurd (omega (arith, pos, ap (λ x. word_at words x) e, free)))
     (λ o lt pos e. absurd (omega (arith, e, pos, ql, l.below)))

@@ -1,5 +1,6 @@
 use Rattle.std.proofs.Common.{ℕ, zero, suc, ◌+◌, ◌/◌, ◌<◌, ◌≤◌, ◌≡◌, ◌≢◌, ◌⊎◌, inl, inr, List, [], ◌∷◌, ◌++◌, Contains, sym, ◌∙◌, ap, arith, append_assoc}
 use Rattle.std.proofs.lemmas.List.Elements.{Contains-append_left, Contains-append_right, Contains-push}
+use Rattle.dn_word.specs.Gate.{gate_of}
 use Rattle.dn_act.specs.Words.{word_at}
 use Rattle.dn_record.specs.Record.{length_in_words}
 use Rattle.dn_model.specs.Regions.{gate, gate_at, directory, directory_at, place, bucket, IsLane}
@@ -32,7 +33,7 @@ none_of y (k, l, e) = absurd (omega (arith, l))
 pub log_stays : (words now : List ℕ) (at new n : ℕ) (log : List Placed) → IsStored words now at new → gate_at n ≢ at → ((q : ℕ) → q < 256 → 0 < directory words n q → directory_at n q ≢ at)
     → ((o : ℕ) → o < (gate words n).len → 0 < directory words n (o / 1024) → place words n o ≢ at) → IsLog words n log → IsLog now n log
 log_stays words now at new n log s g d w h = log_frame words now n log h (record {
-  gate_is = s.other (gate_at n) g;
+  len_is = ap (λ w. (gate_of w).len) (s.other (gate_at n) g);
   directory_is = λ q lt pos. s.other (directory_at n q) (d q lt pos);
   words_are = λ o lt. s.other (place words n o) (w o lt (h.covered o lt).1);
 })

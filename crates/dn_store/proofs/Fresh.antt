@@ -32,6 +32,15 @@ fresh_represents words pool lanes owners h =
         cells = λ j lt. h.zeros (cell_at j) (λ e. absurd (omega (arith, e))) (inr (omega arith));
         keys = λ j lt. h.zeros (512 + j) (λ e. absurd (omega (arith, e))) (inr (omega arith));
       };
+      unused = record {
+        low = λ at a b. h.zeros at (λ e. absurd (omega (arith, e, a))) (inl (omega (arith, b)));
+        middle = λ at a b. h.zeros at (λ e. absurd (omega (arith, e, a))) (inr (omega (arith, a)));
+        high = λ at a b. h.zeros at (λ e. absurd (omega (arith, e, a))) (inr (omega (arith, a)));
+        no_gate = h.zeros (gate_at 0) (λ e. absurd (omega (arith, e))) (inl (omega arith));
+        no_mark = h.zeros (mark_at 0) (λ e. absurd (omega (arith, e))) (inl (omega arith));
+        no_directory = λ q lt. directories 0 q;
+        first = λ b lt. buckets b 0;
+      };
       reads = record {
         logs_are = λ n l. let len : (gate_of (word_at words (gate_at n))).len ≡ 0 = ap (λ (g : Gate). g.len) (gates n l.below) in record { tiled = sym len; covered = λ o lt. absurd (omega (arith, len, lt)) };
         no_more = λ n l. refl;

@@ -8,13 +8,13 @@ use Rattle.dn_record.specs.declared.records.Record.TheVariants.{Put, Delete, Sha
 use Rattle.dn_model.specs.Regions.{cell, mark, owner, slot_of, home_of}
 use Rattle.dn_model.specs.declared.logs.Placed.{Placed}
 use Rattle.dn_model.specs.Index.{index}
-use Rattle.dn_model.specs.Held.{Found, Says, Astray, is_authority, unmerged, record_at, led_to, authority, authority_by, held_by, held_from, held, named, cell_word}
+use Rattle.dn_model.specs.Held.{Found, Says, Astray, is_authority, unmerged, record_at, led_to, authority, authority_by, holder, holder_by, holder_from, held, value_in, named, cell_word}
 use Rattle.dn_model.proofs.HashLaws.{slot_below}
 use Rattle.dn_model.proofs.HeldLaws.{Each, unmerged_is, entry_at_is}
 use Rattle.dn_model.proofs.MapLaws.{lane_or_not, log_records}
 use Rattle.dn_store.specs.State.{StoreState}
 use Rattle.dn_store.specs.Represents.{Represents}
-use Rattle.dn_store.specs.Holding.{owner_in, waiting, authority_in, said_by, said_from, holds}
+use Rattle.dn_store.specs.Holding.{owner_in, waiting, authority_in, holder_in, holds}
 use Rattle.dn_store.proofs.Places.{index_is}
 
 -- What the words hold is what the store holds.
@@ -40,14 +40,14 @@ authority_is words chains s k pos h =
 abbrev SameCells : List ℕ → (ℕ → ℕ) → Type 0
 SameCells words cells = (j : ℕ) → j < 256 → cell words j ≡ cells j
 
-said_is : (words : List ℕ) (cells : ℕ → ℕ) (logs : ℕ → List Placed) (k : ℕ) (r : Record) → SameCells words cells → IsRecord r → held_by words logs k r ≡ said_by cells logs k r
-said_is words cells logs k (Put key value) same r = refl
-said_is words cells logs k (Delete key) same r = refl
-said_is words cells logs k (Share key j opening) same r = ap (λ w. named logs k (ref_of (cell_word opening w))) (same j r.fields_fit.1)
-said_is words cells logs k (Unshare key at) same r = refl
-said_is words cells logs k (Loose key value) same r = refl
-said_is words cells logs k (LooseDelete key) same r = refl
-said_is words cells logs k (Pad n) same r = refl
+holder_is : (words : List ℕ) (cells : ℕ → ℕ) (logs : ℕ → List Placed) (k : ℕ) (r : Record) → SameCells words cells → IsRecord r → holder_by (cell words) logs k r ≡ holder_by cells logs k r
+holder_is words cells logs k (Put key value) same r = refl
+holder_is words cells logs k (Delete key) same r = refl
+holder_is words cells logs k (Share key j opening) same r = ap (λ w. named logs k (ref_of (cell_word opening w))) (same j r.fields_fit.1)
+holder_is words cells logs k (Unshare key at) same r = refl
+holder_is words cells logs k (Loose key value) same r = refl
+holder_is words cells logs k (LooseDelete key) same r = refl
+holder_is words cells logs k (Pad n) same r = refl
 
 -- where what was found is a record of the grammar
 abbrev IsGiven : Found (Option Record) → Type 0
@@ -55,10 +55,10 @@ IsGiven Astray = Unit {0}
 IsGiven (Says None) = Unit {0}
 IsGiven (Says (Some r)) = IsRecord r
 
-said_from_is : (words : List ℕ) (cells : ℕ → ℕ) (logs : ℕ → List Placed) (k : ℕ) (a : Found (Option Record)) → SameCells words cells → IsGiven a → held_from words logs k a ≡ said_from cells logs k a
-said_from_is words cells logs k Astray same g = refl
-said_from_is words cells logs k (Says None) same g = refl
-said_from_is words cells logs k (Says (Some r)) same g = said_is words cells logs k r same g
+holder_from_is : (words : List ℕ) (cells : ℕ → ℕ) (logs : ℕ → List Placed) (k : ℕ) (a : Found (Option Record)) → SameCells words cells → IsGiven a → holder_from (cell words) logs k a ≡ holder_from cells logs k a
+holder_from_is words cells logs k Astray same g = refl
+holder_from_is words cells logs k (Says None) same g = refl
+holder_from_is words cells logs k (Says (Some r)) same g = holder_is words cells logs k r same g
 
 none_some : (r : Record) → None ≡ Some r → ⊥
 none_some r e = cc
@@ -85,10 +85,13 @@ also : (k : ℕ) (log : List Placed) → Each (λ p. IsRecord p.entry) log → E
 also k [] h = tt
 also k (p ∷ ps) h = (λ _. h.0, also k ps h.1)
 
-pub held_is : (words : List ℕ) (chains : ℕ → List ℕ) (s : StoreState) (k : ℕ) → 0 < k → Represents words chains s → held words s.logs chains k ≡ holds s k
-held_is words chains s k pos h =
+pub holder_in_is : (words : List ℕ) (chains : ℕ → List ℕ) (s : StoreState) (k : ℕ) → 0 < k → Represents words chains s → holder words s.logs chains k ≡ holder_in s k
+holder_in_is words chains s k pos h =
     let each = log_records words s.logs chains h.reads in
     let n : ℕ = owner_in s k in
-    ap (λ a. held_from words s.logs k a) (authority_is words chains s k pos h)
-    ∙ said_from_is words s.cells s.logs k (authority_in s k) h.table.cells
+    ap (λ a. holder_from (cell words) s.logs k a) (authority_is words chains s k pos h)
+    ∙ holder_from_is words s.cells s.logs k (authority_in s k) h.table.cells
     (given_by s.logs k (waiting s n k) (s.index k) (unmerged_is IsRecord k (s.marks n) (s.logs n) (also k (s.logs n) (each n))) each)
+
+pub held_is : (words : List ℕ) (chains : ℕ → List ℕ) (s : StoreState) (k : ℕ) → 0 < k → Represents words chains s → held words s.logs chains k ≡ holds s k
+held_is words chains s k pos h = ap value_in (holder_in_is words chains s k pos h)

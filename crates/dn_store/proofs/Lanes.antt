@@ -15,6 +15,7 @@ use Rattle.dn_store.specs.Represents.{Represents}
 use Rattle.dn_store.proofs.At.{at_by}
 use Rattle.dn_store.proofs.Stores.{is_stored, aside, inside}
 use Rattle.dn_store.proofs.Frames.{cut_more}
+use Rattle.dn_store.proofs.Unused.{used_lane}
 use Rattle.dn_store.proofs.Tables.{itself, one_aside, table_changed, table_log}
 
 -- The words of lanes and slots: a gate, a mark, a deed.
@@ -31,6 +32,7 @@ gate_changes words chains s n new log h l own cut =
     table_changed words now chains s (record s { gates = with_at s.gates n (gate_of new); logs = with_at s.logs n log }) (gate_at n) new (record {
       stored = st;
       low = omega (arith, l.below);
+      used = used_lane (gate_at n) (omega (arith, l.positive)) (omega (arith, l.below)) (λ e. absurd (omega (arith, e, l.below)));
       turned = record {
         pool = refl;
         format = λ e. absurd (omega (arith, e));
@@ -79,6 +81,7 @@ regate words chains s n new h l e =
     table_changed words now chains s (gated s n (gate_of new)) (gate_at n) new (record {
       stored = st;
       low = omega (arith, l.below);
+      used = used_lane (gate_at n) (omega (arith, l.positive)) (omega (arith, l.below)) (λ e. absurd (omega (arith, e, l.below)));
       turned = record {
         pool = refl;
         format = λ e. absurd (omega (arith, e));
@@ -111,6 +114,7 @@ mark_stored words chains s n new h l cut =
     table_changed words now chains s (marked s n new) (mark_at n) new (record {
       stored = st;
       low = omega (arith, l.below);
+      used = used_lane (mark_at n) (omega arith) (omega (arith, l.below)) (λ e. absurd (omega (arith, e, l.positive)));
       turned = record {
         pool = refl;
         format = λ e. absurd (omega (arith, e));
@@ -140,6 +144,7 @@ deed_exchanged words chains s t new h lt =
     table_changed words now chains s (deeded s t (deed_of new)) (deed_at t) new (record {
       stored = st;
       low = omega (arith, lt);
+      used = used_lane (deed_at t) (omega arith) (omega (arith, lt)) (λ e. absurd (omega (arith, e)));
       turned = record {
         pool = refl;
         format = λ e. absurd (omega (arith, e));

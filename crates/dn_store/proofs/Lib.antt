@@ -3,6 +3,7 @@ pub mod Stores
 pub mod Frames
 pub mod Places
 pub mod Standings
+pub mod Unused
 pub mod Tables
 pub mod Lanes
 pub mod Claims

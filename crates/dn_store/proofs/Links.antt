@@ -179,5 +179,5 @@ link words chains s k last new h pos l =
     let low = h.indexed.below (home_of k) last (home_below k) l.has in
     let st = bucket_stored words chains s last 7 new h low (omega arith) in
     let j : IsJoin words now chains s k last new = record { h = h; pos = pos; l = l; st = st } in
-    bucket_word words now chains (with_bucket chains (home_of k) new) s last 7 new (with_at s.index k (Some (bucket words new 4))) (with_at s.takers new 0) h low (omega arith) st
+    bucket_word words now chains (with_bucket chains (home_of k) new) s last 7 new (with_at s.index k (Some (bucket words new 4))) (with_at s.takers new 0) h low (omega arith) (omega arith) st
     (joined_chain words now chains s k last new j) (joined_index words now chains s k last new j) (joined_overflow words now chains s k last new j)

@@ -5,11 +5,13 @@ use Rattle.dn_model.specs.Regions.{gate_at, directory_at, bucket_at, IsLane}
 use Rattle.dn_model.specs.Log.{IsLog}
 use Rattle.dn_store.specs.State.{StoreState}
 use Rattle.dn_store.specs.Cut.{IsCut}
+use Rattle.dn_store.specs.Unused.{IsUsed}
 use Rattle.dn_store.specs.Space.{IsSpace}
 use Rattle.dn_store.specs.CellSpace.{IsCellSpace}
 use Rattle.dn_store.specs.Standing.{IsIndexed}
 use Rattle.dn_store.specs.Overflow.{IsOverflow}
 use Rattle.dn_store.specs.Represents.{IsTable, Represents}
+use Rattle.dn_store.proofs.Unused.{unused_stays}
 use Rattle.dn_store.proofs.Stores.{IsStored, Turns, turned, aside, Turns_one, one_turned}
 use Rattle.dn_store.proofs.Frames.{log_stays, chain_stays, space_stays, overflow_stays}
 use Rattle.dn_store.proofs.Standings.{index_stays, stored_shape}
@@ -73,6 +75,7 @@ table_beside words now s index takers at new st high h = table_turned words now 
 pub record TableChange (words now : List ℕ) (chains : ℕ → List ℕ) (s t : StoreState) (at new : ℕ) : Type 0 where
   pub stored : IsStored words now at new
   pub low : at < 1024
+  pub used : IsUsed at
   pub turned : IsTurned s t at new
   pub logs : (n : ℕ) → IsLane n → IsLog now n (t.logs n)
   pub no_more : (n : ℕ) → (IsLane n → ⊥) → t.logs n ≡ []
@@ -89,6 +92,7 @@ table_changed words now chains s t at new c h =
     let P : (ℕ → Option ℕ) → Type 0 = λ x. IsIndexed now chains x in
     record {
       table = table_turned words now s t at new c.stored c.turned h.table;
+      unused = unused_stays words now at new c.stored c.used h.unused;
       reads = record {
         logs_are = c.logs;
         no_more = c.no_more;

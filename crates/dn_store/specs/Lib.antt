@@ -5,6 +5,7 @@ pub mod Space
 pub mod CellSpace
 pub mod Standing
 pub mod Overflow
+pub mod Unused
 pub mod Represents
 pub mod Holding
 pub mod SameStore

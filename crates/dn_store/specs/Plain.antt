@@ -2,20 +2,11 @@ use Rattle.std.specs.Prelude.{ℕ, List, [], ◌∷◌, Option, Some, None, nat_
 use Rattle.dn_word.specs.Gate.{gate_of}
 use Rattle.dn_word.specs.Deed.{deed_of}
 use Rattle.dn_model.specs.Told.{logs_of}
-use Rattle.dn_model.specs.Held.{Found, Says, Astray as NoSense}
 use Rattle.dn_store.specs.State.{StoreState}
-use Rattle.dn_store.specs.declared.plain.Held.{Held}
-use Rattle.dn_store.specs.declared.plain.Held.TheVariants.{Astray, Nothing, Is}
 use Rattle.dn_store.specs.declared.plain.Entry.{Entry}
 use Rattle.dn_store.specs.declared.plain.PlainStore.{PlainStore}
 
 -- The lists of the plain program, in the terms of the definitions.
-
--- what an answer says
-abbrev pub told : Held → Found (Option (List ℕ))
-told Astray = NoSense
-told Nothing = Says None
-told (Is value) = Says (Some value.now)
 
 -- the place word of the first entry with this key
 abbrev pub place_in : ℕ → List Entry → Option ℕ

@@ -5,6 +5,7 @@ use Rattle.dn_act.specs.Words.{word_at, pool_size}
 use Rattle.dn_model.specs.Regions.{gate, mark, deed, cell}
 use Rattle.dn_model.specs.Held.{Reads}
 use Rattle.dn_store.specs.State.{StoreState}
+use Rattle.dn_store.specs.Unused.{IsUnused}
 use Rattle.dn_store.specs.Cut.{IsCut}
 use Rattle.dn_store.specs.Space.{IsSpace}
 use Rattle.dn_store.specs.CellSpace.{IsCellSpace}
@@ -27,6 +28,7 @@ pub record IsTable (words : List ℕ) (s : StoreState) : Type 0 where
 -- The words represent this store, with these overflow buckets behind each home bucket.
 pub record Represents (words : List ℕ) (chains : ℕ → List ℕ) (s : StoreState) : Type 0 where
   pub table : IsTable words s
+  pub unused : IsUnused words
   pub reads : Reads words s.logs chains
   -- what is merged of a log is whole records
   pub merged : (n : ℕ) → IsCut (s.logs n) (s.marks n)

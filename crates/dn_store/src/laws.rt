@@ -10,14 +10,14 @@ ghost use Rattle.dn_record.specs.Record.{length_in_words};
 ghost use Rattle.dn_model.specs.declared.logs.Placed.{Placed};
 ghost use Rattle.dn_model.specs.Log.{Tiles, IsCovered};
 ghost use Rattle.dn_model.specs.Regions.{gate_at, mark_at, deed_at, cell_at, bucket, bucket_at, directory, directory_at, place_in, offsets, home_of, IsLane};
-ghost use Rattle.dn_model.specs.Held.{authority, held};
+ghost use Rattle.dn_model.specs.Held.{authority, holder, held};
 ghost use Rattle.dn_store.specs.State.{StoreState};
 ghost use Rattle.dn_store.specs.Changes.{sealed, gated, marked, deeded, celled, cell_keyed, indexed, linked, claimed, cell_claimed, bucket_claimed, segment_wanted, cell_wanted, bucket_wanted};
 ghost use Rattle.dn_store.specs.Cut.{words_in, IsCut};
 ghost use Rattle.dn_store.specs.Standing.{IsPlaceOf};
 ghost use Rattle.dn_store.specs.Overflow.{with_bucket, IsLinking};
 ghost use Rattle.dn_store.specs.Represents.{Represents};
-ghost use Rattle.dn_store.specs.Holding.{authority_in, holds};
+ghost use Rattle.dn_store.specs.Holding.{authority_in, holder_in, holds};
 ghost use Rattle.dn_store.specs.SameStore.{IsSameStore};
 ghost use Rattle.dn_store.specs.Fresh.{IsFreshPool, fresh_store, no_overflow};
 
@@ -29,8 +29,8 @@ pub fn opening()
         → Represents words no_overflow (fresh_store pool owners) }
 {}
 
-/// Words represent one store, but for who claimed what, and one chain of each home bucket. Authority and value of each
-/// key are those of the store.
+/// Words represent one store, but for who claimed what, and one chain of each home bucket. Authority, holder and value
+/// of each key are those of the store.
 pub fn meaning()
     ensures store { (words : List ℕ) (chains others : ℕ → List ℕ) (s t : StoreState)
         → Represents words chains s → Represents words others t → IsSameStore s t }
@@ -39,6 +39,8 @@ pub fn meaning()
         → (home : ℕ) → home < 4096 → chains home ≡ others home }
     ensures authority { (words : List ℕ) (chains : ℕ → List ℕ) (s : StoreState) (k : ℕ) → 0 < k
         → Represents words chains s → authority words s.logs chains k ≡ authority_in s k }
+    ensures holder { (words : List ℕ) (chains : ℕ → List ℕ) (s : StoreState) (k : ℕ) → 0 < k
+        → Represents words chains s → holder words s.logs chains k ≡ holder_in s k }
     ensures held { (words : List ℕ) (chains : ℕ → List ℕ) (s : StoreState) (k : ℕ) → 0 < k
         → Represents words chains s → held words s.logs chains k ≡ holds s k }
     ensures merged { (words : List ℕ) (chains : ℕ → List ℕ) (s : StoreState) (n : ℕ)

@@ -5,7 +5,7 @@
 pub mod laws;
 mod plain;
 
-pub use plain::{Entry, Held, PlainStore};
+pub use plain::{Entry, PlainStore};
 
 #[cfg(test)]
 mod tests;

@@ -2,24 +2,14 @@
 
 ghost use Rattle.std.specs.Prelude.{◌≡◌, ◌<◌, ◌^◌, ◌&&◌, ℕ, nat_eq, nat_le, if◌then◌else◌, Some};
 ghost use Rattle.std.specs.Option.{option_copied};
-ghost use Rattle.dn_model.specs.Held.{is_authority, unmerged, entry_at, record_at as record_at_of, value_in as value_in_of, named as named_of, indexed};
-ghost use Rattle.dn_store.specs.Holding.{owner_in, waiting as waiting_in, said_by as said_by_of, said_from, holds};
-ghost use Rattle.dn_store.specs.Plain.{told, place_in, store_of};
+ghost use Rattle.dn_model.specs.Told.{told, told_holder};
+ghost use Rattle.dn_model.specs.Held.{holder_by as holder_by_of, holder_from, indexed};
+ghost use Rattle.dn_store.specs.Holding.{owner_in, waiting as waiting_in, holds};
+ghost use Rattle.dn_store.specs.Plain.{place_in, store_of};
 
-use dn_model::Placed;
+use dn_model::{Held, Holder, Placed, holder_named, is_authority_of, last_unmerged, sealed_at};
 use dn_record::Record;
-use dn_word::{Deed, List, Ref, Value, slot_of};
-
-/// What is held at a key.
-pub enum Held<'a> {
-    /// The index leads to no authority record of the key, or a place names neither a value of it nor that there is
-    /// none.
-    Astray,
-    /// Nothing.
-    Nothing,
-    /// This value.
-    Is(&'a Value),
-}
+use dn_word::{Deed, List, Ref, slot_of};
 
 /// A place of the index: a key, and the place word beside it.
 #[derive(Clone, Copy, Debug, PartialEq, Eq)]
@@ -46,58 +36,6 @@ pub struct PlainStore {
     pub cells: List<u64>,
 }
 
-/// Whether a record is an authority record of the key.
-fn is_authority_of(entry: &Record, key: u64) -> bool
-    ensures { result ≡ is_authority key entry.now }
-{
-    match entry {
-        Record::Put { key: own, .. } | Record::Delete { key: own } => *own == key,
-        Record::Share { key: own, .. } | Record::Unshare { key: own, .. } => *own == key,
-        _ => false,
-    }
-}
-
-/// The record, where it is an authority record of the key that isn't merged, or else the one before it.
-fn later<'a>(
-    placed: &'a Placed,
-    merged: u64,
-    key: u64,
-    before: Option<&'a Record>,
-) -> Option<&'a Record>
-    ensures { option_copied result
-        ≡ (if nat_le merged placed.now.offset && is_authority key placed.now.entry
-        then Some placed.now.entry else option_copied before.entry) }
-{
-    if merged <= placed.offset as u64 && is_authority_of(&placed.entry, key) {
-        Some(&placed.entry)
-    } else {
-        before
-    }
-}
-
-/// The last authority record of the key in the part of a log that isn't merged.
-fn last_of(log: &[Placed], merged: u64, key: u64) -> Option<&Record>
-    ensures { option_copied result ≡ unmerged key merged log.now }
-{
-    let mut last = None;
-    for placed in log {
-        last = later(placed, merged, key, last);
-    }
-    last
-}
-
-/// The record of a log that begins at an offset.
-fn entry_in(log: &[Placed], offset: u32) -> Option<&Record>
-    ensures { option_copied result ≡ entry_at offset log.now }
-{
-    for placed in log {
-        if placed.offset == offset {
-            return Some(&placed.entry);
-        }
-    }
-    None
-}
-
 /// The place word of the key's first place.
 fn place_of(index: &[Entry], key: u64) -> Option<u64>
     ensures { result ≡ place_in key index.now }
@@ -110,53 +48,7 @@ fn place_of(index: &[Entry], key: u64) -> Option<u64>
     None
 }
 
-/// What a record names as the value of the key.
-fn value_in(entry: Option<&Record>, key: u64) -> Held<'_>
-    ensures { told result ≡ value_in_of key (option_copied entry.entry) }
-{
-    match entry {
-        Some(Record::Put { key: own, value }) | Some(Record::Loose { key: own, value }) => {
-            if *own == key {
-                Held::Is(value)
-            } else {
-                Held::Astray
-            }
-        }
-        Some(Record::Delete { key: own }) | Some(Record::LooseDelete { key: own }) => {
-            if *own == key {
-                Held::Nothing
-            } else {
-                Held::Astray
-            }
-        }
-        _ => Held::Astray,
-    }
-}
-
 impl PlainStore {
-    /// The sealed record that a place names.
-    fn record_at(&self, at: Option<Ref>) -> Option<&Record>
-        ensures { option_copied result ≡ record_at_of (store_of self.now).logs at }
-    {
-        match at {
-            None => None,
-            Some(at) => match self.logs.as_slice().get(at.lane as usize) {
-                None => None,
-                Some(log) => entry_in(log.as_slice(), at.offset),
-            },
-        }
-    }
-
-    /// What a place names as the value of the key.
-    fn named(&self, key: u64, at: Option<Ref>) -> Held<'_>
-        ensures { told result ≡ named_of (store_of self.now).logs key at }
-    {
-        match at {
-            None => Held::Nothing,
-            Some(_) => value_in(self.record_at(at), key),
-        }
-    }
-
     /// The word of a cell.
     fn cell(&self, cell: u8) -> u64
         ensures { result ≡ (store_of self.now).cells cell }
@@ -167,21 +59,20 @@ impl PlainStore {
         }
     }
 
-    /// What an authority record says is held.
-    fn said_by<'a>(&'a self, key: u64, entry: &'a Record) -> Held<'a>
-        ensures { told result ≡ said_by_of (store_of self.now).cells (store_of self.now).logs
-            key entry.now }
+    /// The holder that an authority record gives the key.
+    fn holder_by<'a>(&'a self, key: u64, entry: &'a Record) -> Holder<'a>
+        ensures { told_holder result ≡ holder_by_of (store_of self.now).cells
+            (store_of self.now).logs key entry.now }
     {
         match entry {
-            Record::Put { value, .. } => Held::Is(value),
-            Record::Delete { .. } => Held::Nothing,
+            Record::Put { .. } | Record::Delete { .. } => Holder::Is(entry),
             Record::Share { cell, opening, .. } => {
                 let word = self.cell(*cell);
                 let word = if word == 0 { *opening } else { word };
-                self.named(key, Ref::read(word))
+                holder_named(self.logs.as_slice(), key, Ref::read(word))
             }
-            Record::Unshare { at, .. } => self.named(key, *at),
-            _ => Held::Astray,
+            Record::Unshare { at, .. } => holder_named(self.logs.as_slice(), key, *at),
+            _ => Holder::Astray,
         }
     }
 
@@ -207,24 +98,24 @@ impl PlainStore {
         };
         match self.logs.as_slice().get(lane) {
             None => None,
-            Some(log) => last_of(log.as_slice(), merged, key),
+            Some(log) => last_unmerged(log.as_slice(), merged, key),
         }
     }
 
-    /// What is held where the index gives this place word for the key.
-    fn held_by_index(&self, key: u64, place: Option<u64>) -> Held<'_>
-        ensures { told result ≡ said_from (store_of self.now).cells (store_of self.now).logs key
-            (indexed (store_of self.now).logs key place) }
+    /// The holder where the index gives this place word for the key.
+    fn holder_by_index(&self, key: u64, place: Option<u64>) -> Holder<'_>
+        ensures { told_holder result ≡ holder_from (store_of self.now).cells
+            (store_of self.now).logs key (indexed (store_of self.now).logs key place) }
     {
         match place {
-            None => Held::Nothing,
-            Some(place) => match self.record_at(Ref::read(place)) {
-                None => Held::Astray,
+            None => Holder::Nobody,
+            Some(place) => match sealed_at(self.logs.as_slice(), Ref::read(place)) {
+                None => Holder::Astray,
                 Some(entry) => {
                     if is_authority_of(entry, key) {
-                        self.said_by(key, entry)
+                        self.holder_by(key, entry)
                     } else {
-                        Held::Astray
+                        Holder::Astray
                     }
                 }
             },
@@ -236,9 +127,10 @@ impl PlainStore {
     pub fn held(&self, key: u64) -> Held<'_>
         ensures { told result ≡ holds (store_of self.now) key }
     {
-        match self.waiting(key) {
-            Some(entry) => self.said_by(key, entry),
-            None => self.held_by_index(key, place_of(self.index.as_slice(), key)),
-        }
+        let holder = match self.waiting(key) {
+            Some(entry) => self.holder_by(key, entry),
+            None => self.holder_by_index(key, place_of(self.index.as_slice(), key)),
+        };
+        holder.held()
     }
 }

@@ -1,5 +1,5 @@
-use crate::{Entry, Held, PlainStore};
-use dn_model::{MapFault, Placed, pool_map};
+use crate::{Entry, PlainStore};
+use dn_model::{Held, MapFault, Placed, pool_map};
 use dn_record::{read, words_of};
 use dn_word::regions::{bucket_at, cell_at, deed_at, directory_at, gate_at, mark_at, segment_at};
 use dn_word::{Deed, List};

@@ -9,7 +9,7 @@ use Rattle.dn_hist.specs.declared.calls.Call.TheVariants.{Get, Put, Delete}
 use Rattle.dn_hist.specs.declared.receipts.Receipt.{Receipt}
 use Rattle.dn_lane.specs.declared.answers.Way.{Way}
 use Rattle.dn_lane.specs.declared.answers.Way.TheVariants.{Pending, Index}
-use Rattle.dn_model.specs.Register.{is_write}
+use Rattle.dn_model.specs.Register.{may_write}
 use Rattle.dn_script.specs.declared.scripts.Line.{Line}
 use Rattle.dn_script.specs.Played.{Asked, asked_in}
 use Rattle.dn_core.specs.Placing.{position_of}
@@ -59,7 +59,7 @@ len_bare len (r ∷ rs) = len_bare (len_with r.call len) rs
 
 has_bare : (key : ℕ) (rs : List Receipt) → has_record key (bares rs) ≡ has_record key rs
 has_bare key [] = refl
-has_bare key (r ∷ rs) = ap (λ b. (is_write r.call && nat_eq (key_of r.call) key) || b) (has_bare key rs)
+has_bare key (r ∷ rs) = ap (λ b. (may_write r.call && nat_eq (key_of r.call) key) || b) (has_bare key rs)
 
 same_len : (before prior : List Receipt) (call other : CallOf) → bares before ≡ bares prior → call ≡ other → len_with call (len_from 0 before) ≡ len_with other (len_from 0 prior)
 same_len before prior call other e c =
