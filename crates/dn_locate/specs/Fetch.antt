@@ -237,6 +237,5 @@ pub record IsFetch (f : Fetching) : Type 0 where
   pub offset : f.at.offset < 2 ^ 24
   pub most : length f.words ≤ 133
   pub fits : FitsAt (length f.words) f.place
-  pub some : 1 ≤ f.segments
   pub pool : f.segments ≤ 8192
   pub inside : end_of f.place ≤ pool_size f.segments

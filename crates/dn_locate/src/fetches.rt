@@ -126,10 +126,9 @@ impl Fetch {
         })
     }
 
-    /// Says how many segments the pool has, from 1 to 8,192. No fetch is under way then.
+    /// Says how many segments the pool has, at most 8,192. No fetch is under way then.
     pub fn of_pool(&mut self, segments: u32)
-        requires least { 0 < segments }
-        requires most { segments ≤ 8192 }
+        requires { segments ≤ 8192 }
         ensures { self.new ≡ of_pool self.old segments }
     {
         self.place = FetchPlace::Idle;

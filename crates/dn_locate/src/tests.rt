@@ -129,7 +129,7 @@ fn a_fetch_stays_in_the_segments_of_its_pool(rt: HostRuntime) -> Result<(), Fail
     for (directory, segments, offset, turn) in ASTRAY {
         assert!(rt; 1280 < pool.size());
         pool.store(1280, directory)?;
-        assert!(rt; 0 < segments && segments <= 8192 && offset < 1024);
+        assert!(rt; segments <= 8192 && offset < 1024);
         fetch.of_pool(segments);
         fetch.start(5, Ref { lane: 1, offset }, Wish::Kind);
         assert_eq!(rt;
