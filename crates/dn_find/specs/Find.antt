@@ -50,7 +50,7 @@ goes_on find f = record { found = More find; fetch = f }
 abbrev pub without : Way → Fetching → Sought
 without way f = record { found = Here way false; fetch = f }
 
--- a walk that found a place goes on with the fetch of the record there; one that found none has located the key without a record
+-- a walk that found a place goes on with the fetch of the record there; one that found none ends the location
 abbrev pub walked_by : Fetching → ℕ → Wish → Walking → WalkTurn → Sought
 walked_by f key wish w turned.More = goes_on (Walk w) f
 walked_by f key wish w (turned.Found at) = goes_on (Fetch Index) (fetch_started f key at wish)

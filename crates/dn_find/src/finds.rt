@@ -27,8 +27,8 @@ pub enum Find {
 pub enum Found {
     /// There is a next load.
     More { find: Find },
-    /// The key is located. Where there is a `record` of it, its words and its place are the fetch's. There is none where the index
-    /// gives no place for the key, or what stands at the place is no record of the key, which a sealed log never has.
+    /// The key is located. Where there is a `record` of it, its words and its place are the fetch's. There is none
+    /// where the index gives no place for the key, or what stands at the place is no record of the key.
     Here { way: Way, record: bool },
 }
 
@@ -77,9 +77,10 @@ fn fetch_on(way: Way, fetch: &mut Fetch, word: u64) -> Found
 }
 
 impl Find {
-    /// Begins to locate a key, which isn't 0. `pending` is the place of the key's last record that the lane sealed and that isn't
-    /// merged yet, where that counts: this record is fetched. Where there is none the index is searched, and the record at the place
-    /// that it gives is fetched. There is always a first load. The location runs its program to its end, whatever words it finds.
+    /// Begins to locate a key, which isn't 0. `pending` is the place of the key's last record that the lane sealed and
+    /// that isn't merged yet, where that counts: this record is fetched. Where there is none the index is searched, and
+    /// the record at the place that it gives is fetched. There is always a first load. The location runs its program to
+    /// its end, whatever words it finds.
     pub fn start(fetch: &mut Fetch, key: u64, wish: Wish, pending: Option<Ref>) -> Find
         requires key { key ≢ 0 }
         requires pending { IsNear pending }

@@ -1,4 +1,5 @@
-//! How a lane locates a key: its pending record where there is one, else by the index, and the fetch of the record, a load at a time.
+//! How a lane locates a key, a load at a time: its pending record where there is one, else the record that the index
+//! gives.
 #![tactic(auto)]
 
 mod finds;

@@ -9,8 +9,8 @@ use dn_word::Ref;
 use std::process::Abort;
 use std::test::Fail;
 
-/// The log of lane 1 in the first of two segments, and an index. Bucket 222, the home bucket of the keys 5, 13561 and 14939, has key
-/// 5, and leads to the first overflow bucket, which has key 13561.
+/// The log of lane 1 in the first of two segments, and an index. Bucket 222, the home bucket of the keys 5, 13561 and
+/// 14939, has key 5, and leads to the first overflow bucket, which has key 13561.
 const WORDS: [(u32, u64); 15] = [
     (1280, 1),
     // 0: a Put of `a` on key 5
@@ -32,8 +32,8 @@ const WORDS: [(u32, u64); 15] = [
     (65540, 0x01000003),
 ];
 
-/// Words that no pool with sealed logs has: a next word that names no bucket, a place word that names no place, and directory words
-/// that name no segment of the pool. With each the key whose location meets it.
+/// Words that no pool with sealed logs has: a next word that names no bucket, a place word that names no place, and
+/// directory words that name no segment of the pool. With each the key whose location meets it.
 const ASTRAY: [(u32, u64, u64); 5] = [
     (34551, 9000, 13561),
     (65540, 0, 13561),
