@@ -79,31 +79,31 @@ is_no_last : (number count : ℕ) → (number + 1 == count) ≡ false → number
 is_no_last number count e lt = let d : number + 1 ≢ count = (λ x. absurd (false≢true (sym e ∙ grind (arith, nat_tests)))) in omega arith
 
 -- the last word was taken
-whole_kept : (words : List ℕ) (log : Log) (sealed : List Sealed) (key : ℕ) (wish : Wish) (at : Ref) (from count : ℕ) (ws : List ℕ) (follows : ℕ) (call : Call) (view : SessionView) (room : List ℕ) (placed : List Placed) (rs : List Receipt) (floor word : ℕ)
+whole_kept : (words : List ℕ) (log : Log) (sealed : List Sealed) (segments key : ℕ) (wish : Wish) (at : Ref) (from count : ℕ) (ws : List ℕ) (follows : ℕ) (call : Call) (view : SessionView) (room : List ℕ) (placed : List Placed) (rs : List Receipt) (floor word : ℕ)
     → IsStanding words log sealed placed rs → IsTimed words log (fetching call view room floor) rs → floor ≡ 0
-    → (h : IsFetching words log (fetch_at key wish at (Content from count) ws follows) call placed)
+    → (h : IsFetching words log (fetch_at segments key wish at (Content from count) ws follows) call placed)
     → word ≡ get_or (spelling h.of.entry) (length ws) 0 → length ws + 1 ≡ count
-    → Keeps (fetching call view room floor) (stamp_in words log) words rs (stepped log sealed (fetch_at key wish at (Content from count) ws follows) (fetching call view room floor) floor word (ended fetched.Done))
-whole_kept words log sealed key wish at from count ws follows call view room placed rs floor word s t z h e last =
-    let l : IsLoaded words log (fetch_at key wish at (Content from count) ws follows) h.of from count = h.loaded in
+    → Keeps (fetching call view room floor) (stamp_in words log) words rs (stepped log sealed (fetch_at segments key wish at (Content from count) ws follows) (fetching call view room floor) floor word (ended fetched.Done))
+whole_kept words log sealed segments key wish at from count ws follows call view room placed rs floor word s t z h e last =
+    let l : IsLoaded words log (fetch_at segments key wish at (Content from count) ws follows) h.of from count = h.loaded in
     let all : List ℕ = spelling h.of.entry in
     let long : length all ≡ length_in_words h.of.entry = put_length h.of.entry l.put.0 l.put.1 l.put.2 in
     let count_is : count ≡ length_in_words h.of.entry = l.whole in
     let lt : length ws < length all = omega arith in
     let there : ws ++ word ∷ [] ≡ all = one_more ws all word l.so_far lt e ∙ take_all (length ws + 1) all (omega arith) in
     let v : value_in (ws ++ word ∷ []) ≡ value_of h.of.entry = put_value h.of.entry l.put.0 l.put.1 (ws ++ word ∷ []) l.put.2 h.is_last.spelled.is_record there in
-    ended_kept words log sealed (fetch_at key wish at Idle (ws ++ word ∷ []) follows) call view room placed rs floor s t z (value_in (ws ++ word ∷ []))
+    ended_kept words log sealed (fetch_at segments key wish at Idle (ws ++ word ∷ []) follows) call view room placed rs floor s t z (value_in (ws ++ word ∷ []))
     (found_along call placed (value_of h.of.entry) (value_in (ws ++ word ∷ [])) (sym v) (last_found call placed h.of.entry h.is_last.last))
     (last_located call placed h.of.entry h.is_last.last)
 
 -- another one, and there are more
-next_kept : (words : List ℕ) (log : Log) (sealed : List Sealed) (key : ℕ) (wish : Wish) (at : Ref) (from count : ℕ) (ws : List ℕ) (follows : ℕ) (call : Call) (view : SessionView) (room : List ℕ) (placed : List Placed) (rs : List Receipt) (floor word : ℕ)
+next_kept : (words : List ℕ) (log : Log) (sealed : List Sealed) (segments key : ℕ) (wish : Wish) (at : Ref) (from count : ℕ) (ws : List ℕ) (follows : ℕ) (call : Call) (view : SessionView) (room : List ℕ) (placed : List Placed) (rs : List Receipt) (floor word : ℕ)
     → IsStanding words log sealed placed rs → IsTimed words log (fetching call view room floor) rs → floor ≡ 0
-    → (h : IsFetching words log (fetch_at key wish at (Content from count) ws follows) call placed)
+    → (h : IsFetching words log (fetch_at segments key wish at (Content from count) ws follows) call placed)
     → word ≡ get_or (spelling h.of.entry) (length ws) 0 → length ws + 1 < count
-    → Keeps (fetching call view room floor) (stamp_in words log) words rs (stepped log sealed (fetch_at key wish at (Content from count) ws follows) (fetching call view room floor) floor word (on (Content from count)))
-next_kept words log sealed key wish at from count ws follows call view room placed rs floor word s t z h e more =
-    let l : IsLoaded words log (fetch_at key wish at (Content from count) ws follows) h.of from count = h.loaded in
+    → Keeps (fetching call view room floor) (stamp_in words log) words rs (stepped log sealed (fetch_at segments key wish at (Content from count) ws follows) (fetching call view room floor) floor word (on (Content from count)))
+next_kept words log sealed segments key wish at from count ws follows call view room placed rs floor word s t z h e more =
+    let l : IsLoaded words log (fetch_at segments key wish at (Content from count) ws follows) h.of from count = h.loaded in
     let n : IsNamed words log h.of.offset = segment_of words log sealed placed rs (key_of call) h.of s h.is_last in
     let fits : h.of.offset % 1024 + length_in_words h.of.entry ≤ 1024 = fits_within h.of.offset h.of.entry h.is_last.spelled.fits in
     let all : List ℕ = spelling h.of.entry in
@@ -114,15 +114,16 @@ next_kept words log sealed key wish at from count ws follows call view room plac
     let begins : from ≡ place words log.lane h.of.offset = l.begins in
     let low : from + length (ws ++ word ∷ []) < 98304 + 1024 * log.pool = omega (arith, begins, n.within, fits, count_is, size) in
     let there : ws ++ word ∷ [] ≡ take (length (ws ++ word ∷ [])) all = one_more ws all word l.so_far lt e ∙ ap (λ j. take j all) (sym size) in
-    in_pool words (running log sealed [] (fetch_at key wish at (Content from count) (ws ++ word ∷ []) follows) (fetching call view room floor)) (fetching call view room floor) floor rs
+    in_pool words (running log sealed [] (fetch_at segments key wish at (Content from count) (ws ++ word ∷ []) follows) (fetching call view room floor)) (fetching call view room floor) floor rs
     (nat_lt (from + length (ws ++ word ∷ [])) (98304 + 1024 * log.pool)) (below (from + length (ws ++ word ∷ [])) log.pool low)
-    (more_kept words log sealed (fetch_at key wish at (Content from count) (ws ++ word ∷ []) follows) call view room placed rs floor s t z
+    (more_kept words log sealed (fetch_at segments key wish at (Content from count) (ws ++ word ∷ []) follows) call view room placed rs floor s t z
     (record {
       of = h.of;
       is_last = h.is_last;
       key_is = h.key_is;
       wish_is = h.wish_is;
       at_is = h.at_is;
+      segments_is = h.segments_is;
       loaded = record {
         wished = l.wished;
         put = l.put;
@@ -134,16 +135,16 @@ next_kept words log sealed key wish at from count ws follows call view room plac
       };
     }))
 
-pub content_kept : (words : List ℕ) (log : Log) (sealed : List Sealed) (key : ℕ) (wish : Wish) (at : Ref) (from count : ℕ) (ws : List ℕ) (follows : ℕ) (call : Call) (view : SessionView) (room : List ℕ) (placed : List Placed) (rs : List Receipt) (floor : ℕ)
+pub content_kept : (words : List ℕ) (log : Log) (sealed : List Sealed) (segments key : ℕ) (wish : Wish) (at : Ref) (from count : ℕ) (ws : List ℕ) (follows : ℕ) (call : Call) (view : SessionView) (room : List ℕ) (placed : List Placed) (rs : List Receipt) (floor : ℕ)
     → IsStanding words log sealed placed rs → IsTimed words log (fetching call view room floor) rs
-    → AtFetch words log [] (fetch_at key wish at (Content from count) ws follows) (fetching call view room floor) placed floor
-    → (word : ℕ) → word ≡ word_at words (at_of (fetch_next (fetch_at key wish at (Content from count) ws follows)))
+    → AtFetch words log [] (fetch_at segments key wish at (Content from count) ws follows) (fetching call view room floor) placed floor
+    → (word : ℕ) → word ≡ word_at words (at_of (fetch_next (fetch_at segments key wish at (Content from count) ws follows)))
     → Keeps (fetching call view room floor) (stamp_in words log) words rs
-    (fetched_by (running log sealed [] (load_after log (fetch_at key wish at (Content from count) ws follows) word) (fetching call view room floor)) (fetching call view room floor) floor
-    (load_turn log (fetch_at key wish at (Content from count) ws follows) word))
-content_kept words log sealed key wish at from count ws follows call view room placed rs floor s t a word e =
+    (fetched_by (running log sealed [] (load_after log (fetch_at segments key wish at (Content from count) ws follows) word) (fetching call view room floor)) (fetching call view room floor) floor
+    (load_turn log (fetch_at segments key wish at (Content from count) ws follows) word))
+content_kept words log sealed segments key wish at from count ws follows call view room placed rs floor s t a word e =
     let h = a.fetching in
-    let l : IsLoaded words log (fetch_at key wish at (Content from count) ws follows) h.of from count = h.loaded in
+    let l : IsLoaded words log (fetch_at segments key wish at (Content from count) ws follows) h.of from count = h.loaded in
     let r : Record = h.of.entry in
     let fits : h.of.offset % 1024 + length_in_words r ≤ 1024 = fits_within h.of.offset r h.is_last.spelled.fits in
     let long : length (spelling r) ≡ length_in_words r = put_length r l.put.0 l.put.1 l.put.2 in
@@ -153,7 +154,7 @@ content_kept words log sealed key wish at from count ws follows call view room p
     let there : word ≡ get_or (spelling r) (length ws) 0 =
     e ∙ ap (λ x. word_at words x) address ∙ stands_at (offsets words log.lane) h.of.offset (spelling r) (length ws) 0 h.is_last.spelled.stands (omega (arith, long, lt)) in
     let its : length ws ≡ 1 → word ≡ key = λ one. put_key r l.put.0 l.put.1 (length ws) word (key_of call) l.put.2 h.is_last.of_key there one ∙ sym h.key_is in
-    contained_by words log sealed (fetch_at key wish at (Content from count) ws follows) (fetching call view room floor) floor rs from count word
+    contained_by words log sealed (fetch_at segments key wish at (Content from count) ws follows) (fetching call view room floor) floor rs from count word
     ((length ws == 1) && not (word == key)) (length ws + 1 == count) (not_astray (length ws) word key its)
-    (λ d. whole_kept words log sealed key wish at from count ws follows call view room placed rs floor word s t a.no_floor h there (is_last_word (length ws) count d))
-    (λ d. next_kept words log sealed key wish at from count ws follows call view room placed rs floor word s t a.no_floor h there (is_no_last (length ws) count d l.more))
+    (λ d. whole_kept words log sealed segments key wish at from count ws follows call view room placed rs floor word s t a.no_floor h there (is_last_word (length ws) count d))
+    (λ d. next_kept words log sealed segments key wish at from count ws follows call view room placed rs floor word s t a.no_floor h there (is_no_last (length ws) count d l.more))

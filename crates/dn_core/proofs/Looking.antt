@@ -84,6 +84,7 @@ locates_kept words log sealed fetch k placed rs s t (Some offset) told = record 
           key_is = refl;
           wish_is = refl;
           at_is = ap (λ o. record { lane = log.lane; offset = o }) (sym told.at);
+          segments_is = refl;
           loaded = refl;
         };
       };
@@ -113,18 +114,18 @@ look_kept words log sealed fetch k placed rs s t word e =
     subst P (sym d) (owned_by words log sealed fetch k rs word (log.lane == log.lane) (grind (arith, nat_tests))
     (locates_kept words log sealed fetch k placed rs s t (last_of (key_of k.call) sealed) (subst T o (last_told words log placed (key_of k.call) s.one s.gate_is))))
 
-by_place : (words : List ℕ) (log : Log) (sealed : List Sealed) (key : ℕ) (wish : Wish) (at : Ref) (place : FetchPlace) (ws : List ℕ) (follows : ℕ) (call : Call) (view : SessionView) (room : List ℕ) (placed : List Placed) (rs : List Receipt) (floor : ℕ)
+by_place : (words : List ℕ) (log : Log) (sealed : List Sealed) (segments key : ℕ) (wish : Wish) (at : Ref) (place : FetchPlace) (ws : List ℕ) (follows : ℕ) (call : Call) (view : SessionView) (room : List ℕ) (placed : List Placed) (rs : List Receipt) (floor : ℕ)
     → IsStanding words log sealed placed rs → IsTimed words log (fetching call view room floor) rs
-    → AtFetch words log [] (fetch_at key wish at place ws follows) (fetching call view room floor) placed floor
-    → (word : ℕ) → word ≡ word_at words (at_of (fetch_next (fetch_at key wish at place ws follows)))
+    → AtFetch words log [] (fetch_at segments key wish at place ws follows) (fetching call view room floor) placed floor
+    → (word : ℕ) → word ≡ word_at words (at_of (fetch_next (fetch_at segments key wish at place ws follows)))
     → Keeps (fetching call view room floor) (stamp_in words log) words rs
-    (fetched_by (running log sealed [] (load_after log (fetch_at key wish at place ws follows) word) (fetching call view room floor)) (fetching call view room floor) floor
-    (load_turn log (fetch_at key wish at place ws follows) word))
-by_place words log sealed key wish at Idle ws follows call view room placed rs floor s t a word e = absurd a.fetching.loaded
-by_place words log sealed key wish at Directory ws follows call view room placed rs floor s t a word e = directory_kept words log sealed key wish at ws follows call view room placed rs floor s t a word e
-by_place words log sealed key wish at (Header from) ws follows call view room placed rs floor s t a word e = header_kept words log sealed key wish at from ws follows call view room placed rs floor s t a word e
-by_place words log sealed key wish at (Content from count) ws follows call view room placed rs floor s t a word e = content_kept words log sealed key wish at from count ws follows call view room placed rs floor s t a word e
-by_place words log sealed key wish at (Link from) ws follows call view room placed rs floor s t a word e = absurd a.fetching.loaded
+    (fetched_by (running log sealed [] (load_after log (fetch_at segments key wish at place ws follows) word) (fetching call view room floor)) (fetching call view room floor) floor
+    (load_turn log (fetch_at segments key wish at place ws follows) word))
+by_place words log sealed segments key wish at Idle ws follows call view room placed rs floor s t a word e = absurd a.fetching.loaded
+by_place words log sealed segments key wish at Directory ws follows call view room placed rs floor s t a word e = directory_kept words log sealed segments key wish at ws follows call view room placed rs floor s t a word e
+by_place words log sealed segments key wish at (Header from) ws follows call view room placed rs floor s t a word e = header_kept words log sealed segments key wish at from ws follows call view room placed rs floor s t a word e
+by_place words log sealed segments key wish at (Content from count) ws follows call view room placed rs floor s t a word e = content_kept words log sealed segments key wish at from count ws follows call view room placed rs floor s t a word e
+by_place words log sealed segments key wish at (Link from) ws follows call view room placed rs floor s t a word e = absurd a.fetching.loaded
 
 -- a word of the fetch was loaded
 pub fetch_kept : (words : List ℕ) (log : Log) (sealed : List Sealed) (fetch : Fetching) (call : Call) (view : SessionView) (room : List ℕ) (placed : List Placed) (rs : List Receipt) (floor : ℕ)
@@ -133,4 +134,4 @@ pub fetch_kept : (words : List ℕ) (log : Log) (sealed : List Sealed) (fetch : 
     → (word : ℕ) → word ≡ word_at words (at_of (fetch_next fetch))
     → Keeps (call_at call view room (at.Fetch floor)) (stamp_in words log) words rs
     (fetched_by (running log sealed [] (load_after log fetch word) (call_at call view room (at.Fetch floor))) (call_at call view room (at.Fetch floor)) floor (load_turn log fetch word))
-fetch_kept words log sealed fetch call view room placed rs floor s t a word e = by_place words log sealed fetch.key fetch.wish fetch.at fetch.place fetch.words fetch.follows call view room placed rs floor s t a word e
+fetch_kept words log sealed fetch call view room placed rs floor s t a word e = by_place words log sealed fetch.segments fetch.key fetch.wish fetch.at fetch.place fetch.words fetch.follows call view room placed rs floor s t a word e

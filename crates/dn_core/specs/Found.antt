@@ -70,4 +70,5 @@ pub record IsFetching (words : List ℕ) (log : Log) (fetch : Fetching) (call : 
   pub key_is : fetch.key ≡ key_of call
   pub wish_is : fetch.wish ≡ wish_of call
   pub at_is : fetch.at ≡ record { lane = log.lane; offset = of.offset }
+  pub segments_is : fetch.segments ≡ log.pool
   pub loaded : LoadedAt words log fetch of fetch.place

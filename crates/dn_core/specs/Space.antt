@@ -1,4 +1,4 @@
-use Rattle.std.specs.Prelude.{◌≡◌, ◌≤◌, ◌<◌, ℕ, ◌+◌, ◌*◌, List, All, length}
+use Rattle.std.specs.Prelude.{◌≡◌, ◌≤◌, ◌<◌, ℕ, List, All, length}
 use Rattle.dn_word.specs.Regions.{segment_counter_at}
 use Rattle.dn_act.specs.Words.{word_at, pool_size}
 use Rattle.dn_log.specs.Log.{Log, reach_of, IsFit, IsApart}

@@ -1,4 +1,5 @@
 pub mod SequenceLaws
+pub mod PurposeLaws
 pub mod SlotLaws
 pub mod WordLaws
 pub mod StoreLaws

@@ -7,7 +7,7 @@ use Rattle.dn_model.specs.Index.{slots, first_place, Leads}
 use Rattle.dn_model.specs.Program.{Program, Return, Do, ◌>>=◌}
 use Rattle.dn_index.specs.declared.places.Spot.{Spot}
 use Rattle.dn_index.specs.declared.places.WalkTurn.{WalkTurn}
-use Rattle.dn_index.specs.Walk.{spot, first_free}
+use Rattle.dn_index.specs.Walk.{spot, first_free, names_bucket}
 use Rattle.dn_index.specs.Sequence.{Reached, At, Out, free_after, key_word, next_word, in_bucket, along}
 use Rattle.dn_index.specs.Gives.{IsIn}
 use Rattle.dn_index.specs.Alone.{Alone}
@@ -49,7 +49,7 @@ key_alone always ends rest words k b i behind r p g h =
 
 bucket_alone : (always : List ℕ → Type 0) (ends : List ℕ → WalkTurn → Type 0) (rest : Reached → Program WalkTurn) (words : List ℕ) (k b : ℕ) (free : Option Spot) (more : ℕ → Option Spot → Program Reached) (reached : Option Spot → Reached)
     → always words
-    → ((now : Option Spot) → Alone always ends (rest (reached now)) words → Alone always ends ((if bucket words b 7 == 0 then Return (Out b now) else more (bucket words b 7) now) >>= rest) words)
+    → ((now : Option Spot) → Alone always ends (rest (reached now)) words → Alone always ends ((if names_bucket (bucket words b 7) then more (bucket words b 7) now else Return (Out b now)) >>= rest) words)
     → Alone always ends (rest (bucket_reach words k b free reached)) words
     → Alone always ends (in_bucket more k b free >>= rest) words
 bucket_alone always ends rest words k b free more reached p g h =
@@ -62,13 +62,13 @@ bucket_alone always ends rest words k b free more reached p g h =
     key_alone always ends rest words k b 1 (λ one. key_word k b 2 (λ two. key_word k b 3 (λ three. next_word b (free_after b free one two three) more))) r1 p (λ h1.
     key_alone always ends rest words k b 2 (λ two. key_word k b 3 (λ three. next_word b (free_after b free w1 two three) more)) r2 p (λ h2.
     key_alone always ends rest words k b 3 (λ three. next_word b (free_after b free w1 w2 three) more) r3 p (λ h3.
-    loaded always ends (bucket_at b 7) (λ next. (if next == 0 then Return (Out b (free_after b free w1 w2 w3)) else more next (free_after b free w1 w2 w3)) >>= rest) words p (g (free_after b free w1 w2 w3) h3)) h2) h1) h
+    loaded always ends (bucket_at b 7) (λ next. (if names_bucket next then more next (free_after b free w1 w2 w3) else Return (Out b (free_after b free w1 w2 w3))) >>= rest) words p (g (free_after b free w1 w2 w3) h3)) h2) h1) h
 
-is_zero : (n : ℕ) → n ≡ 0 → (n == 0) ≡ true
-is_zero n e = grind (arith, nat_tests)
+names_none : (n : ℕ) → n ≡ 0 → names_bucket n ≡ false
+names_none n e = grind (arith, nat_tests)
 
-not_zero : (n : ℕ) → 0 < n → (n == 0) ≡ false
-not_zero n e = grind (arith, nat_tests)
+names_one : (n : ℕ) → 0 < n → n < 8192 → names_bucket n ≡ true
+names_one n least most = grind (arith, nat_tests)
 
 pub along_alone : (left : ℕ) (always : List ℕ → Type 0) (ends : List ℕ → WalkTurn → Type 0) (rest : Reached → Program WalkTurn) (words : List ℕ) (k b : ℕ) (free : Option Spot) (cs : List ℕ)
     → always words → Leads words b cs → length cs ≤ left
@@ -76,18 +76,18 @@ pub along_alone : (left : ℕ) (always : List ℕ → Type 0) (ends : List ℕ �
 along_alone zero always ends rest words k b free [] p l few h =
     bucket_alone always ends rest words k b free (λ next now. Return (Out b now)) (λ now. Out b now) p (λ now w.
     let P : Bool → Type 0 = λ t. Alone always ends ((if t then Return (Out b now) else Return (Out b now)) >>= rest) words in
-    subst P (sym (is_zero (bucket words b 7) l)) w) h
+    subst P (sym (names_none (bucket words b 7) l)) w) h
 along_alone (suc left) always ends rest words k b free [] p l few h =
     bucket_alone always ends rest words k b free (λ next now. along left k next now) (λ now. Out b now) p (λ now w.
-    let P : Bool → Type 0 = λ t. Alone always ends ((if t then Return (Out b now) else along left k (bucket words b 7) now) >>= rest) words in
-    subst P (sym (is_zero (bucket words b 7) l)) w) h
+    let P : Bool → Type 0 = λ t. Alone always ends ((if t then along left k (bucket words b 7) now else Return (Out b now)) >>= rest) words in
+    subst P (sym (names_none (bucket words b 7) l)) w) h
 along_alone zero always ends rest words k b free (c ∷ cs) p l few h = absurd (omega (arith, few))
 along_alone (suc left) always ends rest words k b free (c ∷ cs) p l few h =
     bucket_alone always ends rest words k b free (λ next now. along left k next now) (λ now. reach words k c now cs) p (λ now w.
     let next : bucket words b 7 ≡ c = l.0 in
-    let P : Bool → Type 0 = λ t. Alone always ends ((if t then Return (Out b now) else along left k (bucket words b 7) now) >>= rest) words in
+    let P : Bool → Type 0 = λ t. Alone always ends ((if t then along left k (bucket words b 7) now else Return (Out b now)) >>= rest) words in
     let Q : ℕ → Type 0 = λ x. Alone always ends (along left k x now >>= rest) words in
-    subst P (sym (not_zero (bucket words b 7) (omega (arith, next, l.1))))
+    subst P (sym (names_one (bucket words b 7) (omega (arith, next, l.1)) (omega (arith, next, l.2))))
     (subst Q (sym next) (along_alone left always ends rest words k c now cs p l.3 (omega (arith, few)) w))) h
 
 -- ---- what that says of the index

@@ -4,7 +4,7 @@ use Rattle.dn_word.specs.Ref.{ref_of}
 use Rattle.dn_word.specs.declared.packed.place.Ref.{Ref}
 use Rattle.dn_model.specs.Regions.{home_of}
 use Rattle.dn_model.specs.Program.{Program, Return, ◌>>=◌, add, Turn, Goes, Runs}
-use Rattle.dn_index.specs.Walk.{Walking, spot, trail, begun, noted, at_end, onward, found, turn_of, after_of, walk_next}
+use Rattle.dn_index.specs.Walk.{Walking, spot, trail, begun, noted, at_end, onward, names_bucket, found, turn_of, after_of, walk_next}
 use Rattle.dn_index.specs.Sequence.{Reached, At, Out, free_after, in_bucket, along, read_place, find_program, fill, link, put, set_program, clear, remove_program, turn_by, walk_taken, Walks}
 use Rattle.dn_index.specs.declared.places.Spot.{Spot}
 use Rattle.dn_index.specs.declared.places.Errand.{Errand}
@@ -44,12 +44,12 @@ key_by key errand rest w s more place false e g h =
     let P : ℕ → Type 0 = λ k. Ran (more >>= rest) (Goes (at k place)) in
     subst P (sym e) h
 
--- after a next word, by whether it is 0
-next_by : (key : ℕ) (errand : Errand) (rest : Reached → Program WalkTurn) (w : Walking) (b left : ℕ) (free : Option Spot) (more : Program Reached) (step : Step) (none : Bool) → w.key ≡ key → Goes_on key errand rest
+-- after a next word, by whether it names a bucket
+next_by : (key : ℕ) (errand : Errand) (rest : Reached → Program WalkTurn) (w : Walking) (b left : ℕ) (free : Option Spot) (more : Program Reached) (step : Step) (named : Bool) → w.key ≡ key → Goes_on key errand rest
     → Ran (more >>= rest) (stepped w step)
-    → Ran ((if none then Return (Out b free) else more) >>= rest) (stepped w (if none then at_end errand (trail b left free) else step))
-next_by key errand rest w b left free more step true e g h = g.ended w b left free e
-next_by key errand rest w b left free more step false e g h = h
+    → Ran ((if named then more else Return (Out b free)) >>= rest) (stepped w (if named then step else at_end errand (trail b left free)))
+next_by key errand rest w b left free more step true e g h = h
+next_by key errand rest w b left free more step false e g h = g.ended w b left free e
 
 bucket_run : (key : ℕ) (errand : Errand) (rest : Reached → Program WalkTurn) (b left : ℕ) (free : Option Spot) (more : ℕ → Option Spot → Program Reached) → Goes_on key errand rest
     → ((w : Walking) (next : ℕ) (now : Option Spot) → w.key ≡ key → Ran (more next now >>= rest) (stepped w (onward errand (trail b left now) next)))
@@ -70,7 +70,7 @@ bucket_run key errand rest b left free more g h = (
         at key (Next errand (trail b left (free_after b free one two three))),
         refl,
         refl,
-        λ next. next_by key errand rest (at key (Next errand (trail b left (free_after b free one two three)))) b left (free_after b free one two three) (more next (free_after b free one two three)) (onward errand (trail b left (free_after b free one two three)) next) (next == 0) refl g
+        λ next. next_by key errand rest (at key (Next errand (trail b left (free_after b free one two three)))) b left (free_after b free one two three) (more next (free_after b free one two three)) (onward errand (trail b left (free_after b free one two three)) next) (names_bucket next) refl g
             (h (at key (Next errand (trail b left (free_after b free one two three)))) next (free_after b free one two three) refl),
       ),
     ),

@@ -1,4 +1,5 @@
 pub mod Walk
+pub mod Footprint
 pub mod Sequence
 pub mod Gives
 pub mod Alone

@@ -3,7 +3,7 @@ use Rattle.dn_word.specs.Ref.{ref_of, ref_word}
 use Rattle.dn_word.specs.declared.packed.place.Ref.{Ref}
 use Rattle.dn_model.specs.Regions.{bucket_at, home_of}
 use Rattle.dn_model.specs.Program.{Program, Return, ◌>>=◌, load, store, add, Turn, Goes, Ends, Runs}
-use Rattle.dn_index.specs.Walk.{Walking, spot, key_at, place_at, first_free, found, walk_next, walk_turn, walk_after}
+use Rattle.dn_index.specs.Walk.{Walking, spot, key_at, place_at, first_free, names_bucket, found, walk_next, walk_turn, walk_after}
 use Rattle.dn_index.specs.declared.places.Spot.{Spot}
 use Rattle.dn_index.specs.declared.places.WalkTurn.{WalkTurn}
 use Rattle.dn_index.specs.declared.places.WalkTurn.TheVariants.{More, Found, Absent, Written, IndexFull}
@@ -21,9 +21,9 @@ free_after b free one two three = first_free (first_free (first_free free (spot 
 abbrev pub key_word : ℕ → ℕ → ℕ → (ℕ → Program Reached) → Program Reached
 key_word key b i behind = load (bucket_at b i) >>= λ word. if word == key then Return (At (spot b i)) else behind word
 
--- its next word: 0 ends the chain
+-- its next word: one that names no bucket, as 0, ends the chain
 abbrev pub next_word : ℕ → Option Spot → (ℕ → Option Spot → Program Reached) → Program Reached
-next_word b free onward = load (bucket_at b 7) >>= λ next. if next == 0 then Return (Out b free) else onward next free
+next_word b free onward = load (bucket_at b 7) >>= λ next. if names_bucket next then onward next free else Return (Out b free)
 
 -- the key words of a bucket in turn until the key is met, and then the next word
 abbrev pub in_bucket : (ℕ → Option Spot → Program Reached) → ℕ → ℕ → Option Spot → Program Reached

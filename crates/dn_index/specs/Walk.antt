@@ -1,5 +1,4 @@
-use Rattle.std.specs.Prelude.{◌≡◌, ◌≢◌, ◌⊎◌, ℕ, ◌+◌, ◌-◌, ◌*◌, ◌^◌, ◌<◌, ◌≤◌, ◌==◌, Option, Some, None, nat_lt, if◌then◌else◌}
-use Rattle.dn_word.specs.Regions.{segments_at, overflow_counter_at}
+use Rattle.std.specs.Prelude.{◌≢◌, ℕ, ◌+◌, ◌-◌, ◌*◌, ◌^◌, ◌<◌, ◌≤◌, ◌==◌, ◌&&◌, Bool, Option, Some, None, nat_lt, if◌then◌else◌}
 use Rattle.dn_word.specs.Ref.{ref_of, ref_word}
 use Rattle.dn_word.specs.declared.packed.place.Ref.{Ref}
 use Rattle.dn_act.specs.declared.actions.Action.{Action}
@@ -60,10 +59,6 @@ next_at key (Link last new) = Store (bucket_at last 7) new
 abbrev pub walk_next : Walking → Action
 walk_next w = next_at w.key w.place
 
--- the overflow counter, or a word of a bucket
-abbrev pub IsOfIndex : ℕ → Type 0
-IsOfIndex at = (at ≡ overflow_counter_at) ⊎ ((bucket_at 0 0 ≤ at) × (at < segments_at))
-
 -- ---- the steps
 -- the first place of the chain with 0 for a key
 abbrev pub first_free : Option Spot → Spot → ℕ → Option Spot
@@ -96,8 +91,12 @@ at_end Remove t = End Written
 abbrev pub onward : Errand → Trail → ℕ → Step
 onward errand t next = if t.left == 0 then at_end errand t else On (Key errand (trail next (t.left - 1) t.free) 1)
 
+-- whether a next word names a bucket; one that names none, as 0 does, ends the chain
+abbrev pub names_bucket : ℕ → Bool
+names_bucket word = nat_lt 0 word && nat_lt word 8192
+
 abbrev pub led : Errand → Trail → ℕ → Step
-led errand t word = if word == 0 then at_end errand t else onward errand t word
+led errand t word = if names_bucket word then onward errand t word else at_end errand t
 
 -- the place word that was found, whose lower half is the place of a record
 abbrev pub found : Option Ref → WalkTurn
@@ -148,22 +147,6 @@ walk_turn w word = turn_of (walk_step w word)
 
 abbrev pub walk_after : Walking → ℕ → Walking
 walk_after w word = after_of w (walk_step w word)
-
--- a next word names a bucket or none, and a place word that was found isn't 0
-abbrev pub MetWord : Errand → ℕ → Type 0
-MetWord Find word = word ≢ 0
-MetWord (Set at) word = Unit {0}
-MetWord Remove word = Unit {0}
-
-abbrev pub IsWord : WalkPlace → ℕ → Type 0
-IsWord (Key errand t number) word = Unit {0}
-IsWord (Next errand t) word = word < 8192
-IsWord (Match errand s) word = MetWord errand word
-IsWord (Counter at last) word = Unit {0}
-IsWord (Claim at last) word = Unit {0}
-IsWord (FillPlace at s from) word = Unit {0}
-IsWord (FillKey s from) word = Unit {0}
-IsWord (Link last new) word = Unit {0}
 
 -- the overflow counter was read, and all overflow buckets are claimed
 abbrev pub IsFull : WalkPlace → ℕ → Type 0

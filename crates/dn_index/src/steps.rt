@@ -1,11 +1,15 @@
 //! The steps of a walk, each from the word that its action found.
 
 ghost use Rattle.std.specs.Prelude.{◌≡◌, ◌<◌, ◌≤◌, ◌^◌};
-ghost use Rattle.dn_index.specs.Walk.{first_free, noted, past, keyed, at_end, led, met, counted, claimed, filled, step_at, left_at, IsSpot, MaySpot, IsTrail, IsErrand, MayBucket, IsWord, IsPlace, IsStep};
+ghost use Rattle.dn_index.specs.Footprint.{purpose_at, StaysOn};
+ghost use Rattle.dn_index.specs.Walk.{first_free, noted, past, keyed, at_end, names_bucket, led, met, counted, claimed, filled, step_at, left_at, IsSpot, MaySpot, IsTrail, IsErrand, MayBucket, IsPlace, IsStep};
 
 use crate::places::{Errand, Spot, Step, Trail, WalkPlace, WalkTurn};
 use dn_word::Ref;
 use dn_word::regions::OVERFLOW_BUCKETS;
+
+/// How many buckets the pool has: 4,096 home buckets, and the overflow buckets behind them.
+const BUCKETS: u64 = 4096 + OVERFLOW_BUCKETS as u64;
 
 /// Keeps the first free place of the chain.
 fn note(trail: Trail, number: u8, word: u64) -> Trail
@@ -91,15 +95,21 @@ fn end(errand: Errand, trail: Trail) -> Step
     Step::On { place }
 }
 
-/// After a next word.
+/// Whether a next word names a bucket.
+fn names_bucket(word: u64) -> bool
+    ensures { result ≡ names_bucket word }
+{
+    word != 0 && word < BUCKETS
+}
+
+/// After a next word. One that names no bucket ends the chain.
 fn after_next(errand: Errand, trail: Trail, word: u64) -> Step
     requires errand { IsErrand errand }
     requires trail { IsTrail trail }
-    requires word { word < 8192 }
     ensures value { result ≡ led errand trail word }
     ensures bounds { IsStep result }
 {
-    if word == 0 {
+    if !names_bucket(word) {
         return end(errand, trail);
     }
     if trail.left == 0 {
@@ -198,11 +208,12 @@ fn after_fill(spot: Spot, from: Option<u16>) -> Step
 }
 
 /// The step from a place.
+#[tactic(auto, using(crate::proofs::PurposeLaws::purpose_stays))]
 pub(crate) fn after(key: u64, place: WalkPlace, word: u64) -> Step
     requires place { IsPlace place }
-    requires word { IsWord place word }
     ensures value { result ≡ step_at key place word }
     ensures bounds { IsStep result }
+    ensures purpose { StaysOn (purpose_at place) result }
 {
     match place {
         WalkPlace::Key {

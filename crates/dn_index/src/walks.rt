@@ -1,8 +1,8 @@
-ghost use Rattle.std.specs.Prelude.{◌≡◌, ◌≢◌, ◌<◌, ◌≤◌, ◌^◌, ◌↔◌, ℕ, IsTrue};
+ghost use Rattle.std.specs.Prelude.{◌≡◌, ◌≢◌, ◌<◌, ◌≤◌, ◌^◌, ℕ};
 ghost use Rattle.dn_word.specs.Ref.{ref_word};
-ghost use Rattle.dn_act.specs.Action.{at_of};
 ghost use Rattle.dn_model.specs.Regions.{bucket_at, home_of};
-ghost use Rattle.dn_index.specs.Walk.{begun, key_at, place_at, met_action, walk_next, walk_turn, walk_after, actions_left, IsOfIndex, IsSpot, IsErrand, IsWord, IsFull};
+ghost use Rattle.dn_index.specs.Walk.{begun, key_at, place_at, met_action, walk_next, walk_turn, walk_after, actions_left, IsSpot, IsErrand, IsFull};
+ghost use Rattle.dn_index.specs.Footprint.{purpose, Footprint};
 ghost use Rattle.dn_index.specs.Sequence.{Walks, find_program, set_program, remove_program};
 
 use crate::places::{Errand, Spot, Step, Trail, WalkPlace, WalkTurn};
@@ -141,10 +141,11 @@ impl Walk {
         begin(key, Errand::Remove)
     }
 
-    /// The next action: on the overflow counter, or on a word of a bucket.
+    /// The next action. To find a key only words of buckets are loaded. To set it words of buckets are stored too, and 1 is added to the
+    /// overflow counter. To remove it 0 is stored for a key word.
     pub fn next(&self) -> Action
         ensures value { result ≡ walk_next self.now }
-        ensures within { IsOfIndex (at_of result) }
+        ensures footprint { Footprint (purpose self.now) self.now.key result }
     {
         match self.place {
             WalkPlace::Key { trail, number, .. } => Action::Load {
@@ -176,27 +177,13 @@ impl Walk {
         }
     }
 
-    /// Whether `take` may be given this word: a next word is below 8,192, and a place word that find loads isn't 0.
-    pub fn accepts(&self, word: u64) -> bool
-        ensures { IsTrue result ↔ IsWord self.now.place word }
-    {
-        match self.place {
-            WalkPlace::Next { .. } => word < 8192,
-            WalkPlace::Match {
-                errand: Errand::Find,
-                ..
-            } => word != 0,
-            _ => true,
-        }
-    }
-
-    /// Takes the word that the action found: a next word is below 8,192, and a place word that find loads isn't 0. The walk is over
-    /// with any answer but `More`. `Found` and `Absent` answer find, `Written` set and remove, and `IndexFull` set alone.
-    /// A place word whose lower half is 0 names no place and is `Absent`.
+    /// Takes the word that the action found, whatever it is. The walk is over with any answer but `More`. `Found` and `Absent` answer
+    /// find, `Written` set and remove, and `IndexFull` set alone. A next word that names no bucket ends the chain, and a place word
+    /// whose lower half is 0 names no place and is `Absent`. What the walk is for stays.
     pub fn take(&mut self, word: u64) -> WalkTurn
-        requires { IsWord self.old.place word }
         ensures turn { result ≡ walk_turn self.old word }
         ensures after { self.new ≡ walk_after self.old word }
+        ensures purpose { purpose self.new ≡ purpose self.old }
         ensures falls { result ≡ WalkTurn.More → actions_left self.new < actions_left self.old }
         ensures full { (counter : ℕ) → result ≡ WalkTurn.IndexFull counter → counter ≡ word }
         ensures full_where { (counter : ℕ) → result ≡ WalkTurn.IndexFull counter

@@ -11,7 +11,7 @@ use Rattle.dn_hist.specs.declared.receipts.SessionView.{SessionView}
 use Rattle.dn_model.specs.Program.{Program, Return, Do, ◌>>=◌, Turn as Step, Goes, Ends, Runs}
 use Rattle.dn_log.specs.Log.{Log}
 use Rattle.dn_log.specs.declared.staging.Staged.{Staged}
-use Rattle.dn_locate.specs.Fetch.{Fetching, started, fetch_next, fetch_turn, fetch_after}
+use Rattle.dn_locate.specs.Fetch.{Fetching, of_pool, started, fetch_next, fetch_turn, fetch_after}
 use Rattle.dn_locate.specs.Sequence.{Fetched, sequence, fetch_taken, turn_by as fetch_turned}
 use Rattle.dn_locate.specs.declared.fetches.FetchTurn.{FetchTurn}
 use Rattle.dn_locate.specs.declared.fetches.FetchTurn.TheVariants as fetched
@@ -137,7 +137,7 @@ fetch_run (Do action k) log sealed barred call view room floor f s lt h =
           let F : Fetching → Type 0 = λ g. FetchRan (k word) (fetch_taken g word) in
           subst W (sym (named_at f log.pool word f.place s.near s.from))
           (word_by log sealed barred call view room floor f (fetch_after f word) (k word) (fetch_turn f word) (subst F (sym same) (h.3 word))
-          (λ more g below. fetch_run (k word) log sealed barred call view room floor (fetch_after f word) (stands_on f.key f.wish f.at f.place f.words f.follows word s more) below g)
+          (λ more g below. fetch_run (k word) log sealed barred call view room floor (fetch_after f word) (stands_on f.segments f.key f.wish f.at f.place f.words f.follows word s more) below g)
           (names_segment log f word)),
     ))
 
@@ -151,8 +151,8 @@ lookup_run : (log : Log) (sealed : List Sealed) (fetch : Fetching) (barred : Opt
 lookup_run log sealed fetch barred call view floor number None low = gate_run log sealed fetch barred call view [] floor (record { way = Index; held = false })
 lookup_run log sealed fetch barred call view floor number (Some offset) low =
     let to : Ref = record { lane = log.lane; offset = offset } in
-    fetch_run (sequence 4096 (key_of call) (wish_of call) to) log sealed barred call view [] floor (started fetch (key_of call) to (wish_of call))
-    (record { near = (omega (arith, number), omega (arith, low)); from = tt }) (directory_within log.lane offset log.pool number low) (sequence_run 4096 (key_of call) (wish_of call) to).runs
+    fetch_run (sequence log.pool 4096 (key_of call) (wish_of call) to) log sealed barred call view [] floor (started (of_pool fetch log.pool) (key_of call) to (wish_of call))
+    (record { near = (omega (arith, number), omega (arith, low)); from = tt }) (directory_within log.lane offset log.pool number low) (sequence_run log.pool 4096 (key_of call) (wish_of call) to).runs
 
 call_run : (log : Log) (sealed : List Sealed) (fetch : Fetching) (barred : Option ℕ) (call : Call) (view : SessionView) → log.lane < 64 → All (λ (s : Sealed). s.offset < 262144) sealed
     → Ran (call_sequence log sealed view call) (Goes (lane_at log sealed [] fetch barred (call_at call view [] at.Look)))

@@ -1,10 +1,12 @@
-use Rattle.std.proofs.Common.{◌≡◌, ◌<◌, ◌≤◌, ℕ, ◌+◌, ◌*◌, ◌/◌, ◌%◌, ◌^◌, ◌==◌, ◌&&◌, nat_eq, nat_lt, nat_le, Bool, true, false, not, List, length, Option, Some, None, if◌then◌else◌, ap, arith}
+use Rattle.std.proofs.Common.{◌≡◌, ◌<◌, ◌≤◌, ℕ, ◌+◌, ◌*◌, ◌/◌, ◌%◌, ◌^◌, ◌==◌, ◌&&◌, nat_eq, nat_lt, nat_le, Bool, true, false, not, List, length, Option, Some, None, if◌then◌else◌, refl, ap, arith}
 use Rattle.std.proofs.lemmas.Bool.Decides.{nat_tests}
 use Rattle.dn_word.specs.Ref.{ref_of}
 use Rattle.dn_word.specs.declared.packed.place.Ref.{Ref}
+use Rattle.dn_record.specs.Head.{head_words}
 use Rattle.dn_record.specs.Reading.{head_in}
+use Rattle.dn_model.specs.Regions.{place_in}
 use Rattle.dn_record.specs.declared.heads.Head.{Head}
-use Rattle.dn_locate.specs.Fetch.{Fetching, is_directory, from_of, next_at, rest_of, by_rest, headed, reached, joined, fetch_turn, fetch_after}
+use Rattle.dn_locate.specs.Fetch.{Fetching, is_directory, names_segment, ends_inside, next_at, rest_of, ended, on, by_rest, headed, reached, joined, fetch_turn, fetch_after}
 use Rattle.dn_locate.specs.declared.fetches.Wish.{Wish}
 use Rattle.dn_locate.specs.declared.fetches.FetchPlace.{FetchPlace}
 use Rattle.dn_locate.specs.declared.fetches.FetchPlace.TheVariants.{Idle, Directory, Header, Content, Link}
@@ -75,7 +77,7 @@ rest_stands from Linked le = λ m. (le, tt)
 
 headed_stands : (from : ℕ) (wish : Wish) (head : Option Head) → 98304 ≤ from → StepStands (headed from wish head)
 headed_stands from wish None le = λ m. absurd m
-headed_stands from wish (Some head) le = rest_stands from (rest_of head wish) le
+headed_stands from wish (Some head) le = step_by (ends_inside from (head_words head)) _ _ (rest_stands from (rest_of head wish) le) (λ m. absurd m)
 
 reached_stands : (follows : ℕ) (next : Option Ref) → NextAt next → StepStands (reached follows next)
 reached_stands follows None near = λ m. absurd m
@@ -98,21 +100,28 @@ joined_stands : (f : Fetching) (word : ℕ) (place : FetchPlace) (follow : Optio
 joined_stands f word place None near s = record { near = near; from = s.0 }
 joined_stands f word place (Some at) near s = record { near = s.1; from = s.0 }
 
-abbrev fetching : ℕ → Wish → Ref → FetchPlace → List ℕ → ℕ → Fetching
-fetching key wish at place words follows = record { key = key; wish = wish; at = at; place = place; words = words; follows = follows }
+abbrev fetching : ℕ → ℕ → Wish → Ref → FetchPlace → List ℕ → ℕ → Fetching
+fetching segments key wish at place words follows = record { key = key; wish = wish; at = at; place = place; words = words; follows = follows; segments = segments }
 
-above_segments : (at : Ref) (word : ℕ) → 98304 ≤ from_of at word
-above_segments at word = omega arith
+named_some : (segments word : ℕ) → names_segment segments word ≡ true → 0 < word
+named_some segments word e = grind (arith, nat_tests)
 
-pub stands_on : (key : ℕ) (wish : Wish) (at : Ref) (place : FetchPlace) (words : List ℕ) (follows word : ℕ) → Stands (fetching key wish at place words follows)
-    → IsMore (fetch_turn (fetching key wish at place words follows) word) → Stands (fetch_after (fetching key wish at place words follows) word)
-stands_on key wish at Idle words follows word s m = absurd m
-stands_on key wish at Directory words follows word s m = record { near = s.near; from = above_segments at word }
-stands_on key wish at (Header from) words follows word s m =
-    joined_stands (fetching key wish at (Header from) words follows) word _ _ s.near (headed_stands from wish (head_in word) s.from m)
-stands_on key wish at (Content from count) words follows word s m =
-    joined_stands (fetching key wish at (Content from count) words follows) word _ _ s.near
+above_segments : (word offset : ℕ) → 0 < word → 98304 ≤ place_in word offset
+above_segments word offset some = omega (arith, some)
+
+directed_stands : (segments : ℕ) (at : Ref) (word : ℕ) (b : Bool) → names_segment segments word ≡ b → StepStands (if b then on (Header (place_in word at.offset)) else ended Absent)
+directed_stands segments at word true e = λ m. (above_segments word at.offset (named_some segments word e), tt)
+directed_stands segments at word false e = λ m. absurd m
+
+pub stands_on : (segments key : ℕ) (wish : Wish) (at : Ref) (place : FetchPlace) (words : List ℕ) (follows word : ℕ) → Stands (fetching segments key wish at place words follows)
+    → IsMore (fetch_turn (fetching segments key wish at place words follows) word) → Stands (fetch_after (fetching segments key wish at place words follows) word)
+stands_on segments key wish at Idle words follows word s m = absurd m
+stands_on segments key wish at Directory words follows word s m = record { near = s.near; from = (directed_stands segments at word (names_segment segments word) refl m).0 }
+stands_on segments key wish at (Header from) words follows word s m =
+    joined_stands (fetching segments key wish at (Header from) words follows) word _ _ s.near (headed_stands from wish (head_in word) s.from m)
+stands_on segments key wish at (Content from count) words follows word s m =
+    joined_stands (fetching segments key wish at (Content from count) words follows) word _ _ s.near
     (step_by ((length words == 1) && not (word == key)) _ _ (λ e. absurd e) (step_by (length words + 1 == count) _ _ (λ e. absurd e) (λ e. (s.from, tt))) m)
-stands_on key wish at (Link from) words follows word s m =
-    joined_stands (fetching key wish at (Link from) words follows) word _ _ s.near
+stands_on segments key wish at (Link from) words follows word s m =
+    joined_stands (fetching segments key wish at (Link from) words follows) word _ _ s.near
     (step_by (length words == 1) _ _ (step_by (word == key) _ _ (λ e. (s.from, tt)) (λ e. absurd e)) (reached_stands follows (ref_of word) (ref_near word)) m)

@@ -1,4 +1,4 @@
-use Rattle.std.specs.Prelude.{◌≡◌, ◌+◌, ◌*◌, ◌^◌, ◌<◌, ℕ, List, [], length, All, Option, Some, None, false, true}
+use Rattle.std.specs.Prelude.{◌≡◌, ◌^◌, ◌<◌, ℕ, List, [], length, All, Option, Some, None, false, true}
 use Rattle.dn_act.specs.Words.{pool_size}
 use Rattle.dn_log.specs.Log.{Log, plan_of}
 use Rattle.dn_log.specs.declared.claims.Claim.{Claim}

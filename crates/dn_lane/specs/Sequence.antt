@@ -1,4 +1,4 @@
-use Rattle.std.specs.Prelude.{ℕ, ◌+◌, ◌-◌, ◌*◌, ◌^◌, ◌==◌, ◌&&◌, Bool, true, List, [], ◌∷◌, length, Option, Some, None, nat_lt, nat_le, if◌then◌else◌}
+use Rattle.std.specs.Prelude.{ℕ, ◌-◌, ◌^◌, ◌==◌, ◌&&◌, Bool, true, List, [], ◌∷◌, length, Option, Some, None, nat_lt, nat_le, if◌then◌else◌}
 use Rattle.dn_word.specs.Regions.{segments_at}
 use Rattle.dn_act.specs.Words.{pool_size}
 use Rattle.dn_word.specs.Deed.{deed_of}
@@ -119,7 +119,7 @@ brings pool (Do action k) =
 abbrev pub looks_up : Log → SessionView → Call → ℕ → Option ℕ → Program Answer
 looks_up log view call floor None = passes_gate log view call floor Index (found_of None)
 looks_up log view call floor (Some offset) =
-    brings log.pool (sequence 4096 (key_of call) (wish_of call) (record { lane = log.lane; offset = offset })) >>= λ value.
+    brings log.pool (sequence log.pool 4096 (key_of call) (wish_of call) (record { lane = log.lane; offset = offset })) >>= λ value.
     passes_gate log view call floor Pending (found_of value)
 
 -- ---- the whole call: the deed of the key's slot is loaded, and the owner goes on

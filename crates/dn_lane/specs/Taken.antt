@@ -23,7 +23,7 @@ use Rattle.dn_log.specs.declared.claims.Claim.{Claim}
 use Rattle.dn_log.specs.declared.claims.Claim.TheVariants.{Reading}
 use Rattle.dn_log.specs.declared.claims.ClaimTurn.{ClaimTurn}
 use Rattle.dn_log.specs.declared.claims.ClaimTurn.TheVariants as claimed
-use Rattle.dn_locate.specs.Fetch.{Fetching, started, is_directory, fetch_next, fetch_turn, fetch_after}
+use Rattle.dn_locate.specs.Fetch.{Fetching, of_pool, started, is_directory, fetch_next, fetch_turn, fetch_after}
 use Rattle.dn_act.specs.Action.{at_of}
 use Rattle.dn_locate.specs.declared.fetches.FetchTurn.{FetchTurn}
 use Rattle.dn_locate.specs.declared.fetches.FetchTurn.TheVariants as fetched
@@ -86,7 +86,7 @@ abbrev pub locates : LaneState → Work → ℕ → Option ℕ → Taken
 locates l k floor (Some offset) = record {
   turn = More;
   lane = record l {
-    fetch = started l.fetch (key_of k.call) (record { lane = l.log.lane; offset = offset }) (wish_of k.call);
+    fetch = started (of_pool l.fetch l.log.pool) (key_of k.call) (record { lane = l.log.lane; offset = offset }) (wish_of k.call);
     work = Some (record k { place = at.Fetch floor });
   };
 }

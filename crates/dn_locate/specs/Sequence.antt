@@ -4,7 +4,9 @@ use Rattle.dn_word.specs.declared.packed.place.Ref.{Ref}
 use Rattle.dn_record.specs.Reading.{head_in}
 use Rattle.dn_record.specs.declared.heads.Head.{Head}
 use Rattle.dn_model.specs.Program.{Program, Return, ◌>>=◌, load, Turn, Goes, Ends, Runs}
-use Rattle.dn_locate.specs.Fetch.{Fetching, directory_of, from_of, rest_of, fetch_next, fetch_turn, fetch_after}
+use Rattle.dn_record.specs.Head.{head_words}
+use Rattle.dn_model.specs.Regions.{place_in}
+use Rattle.dn_locate.specs.Fetch.{Fetching, directory_of, names_segment, ends_inside, rest_of, fetch_next, fetch_turn, fetch_after}
 use Rattle.dn_locate.specs.declared.fetches.Wish.{Wish}
 use Rattle.dn_locate.specs.declared.fetches.FetchTurn.{FetchTurn}
 use Rattle.dn_locate.specs.declared.fetches.FetchTurn.TheVariants.{More, Done, Absent}
@@ -45,22 +47,24 @@ behind follow key from at header (Words count) = keyed key from at header (more_
 behind follow key from at header Linked =
     keyed key from at header (λ words. load (from + 2) >>= λ third. named follow at (words ++ third ∷ []) (ref_of third))
 
--- by the header's kind and the wish
+-- by the header's kind and the wish, where the record ends in its header's segment
 abbrev pub headed_by : (Ref → List ℕ → Ref → Program Fetched) → ℕ → Wish → ℕ → Ref → ℕ → Option Head → Program Fetched
 headed_by follow key wish from at header None = astray at (header ∷ [])
-headed_by follow key wish from at header (Some head) = behind follow key from at header (rest_of head wish)
+headed_by follow key wish from at header (Some head) =
+    if ends_inside from (head_words head) then behind follow key from at header (rest_of head wish) else astray at (header ∷ [])
 
--- the directory word, the header, and what comes behind it
-abbrev pub record_at : (Ref → List ℕ → Ref → Program Fetched) → ℕ → Wish → Ref → Program Fetched
-record_at follow key wish at =
+-- the directory word, and where it names one of the pool's segments the header there, and what comes behind it
+abbrev pub record_at : (Ref → List ℕ → Ref → Program Fetched) → ℕ → ℕ → Wish → Ref → Program Fetched
+record_at follow segments key wish at =
     load (directory_of at) >>= λ directory.
-    load (from_of at directory) >>= λ header.
-    headed_by follow key wish (from_of at directory) at header (head_in header)
+    if names_segment segments directory
+    then (load (place_in directory at.offset) >>= λ header. headed_by follow key wish (place_in directory at.offset) at header (head_in header))
+    else astray at []
 
--- the whole fetch, which follows at most so many Unshares
-abbrev pub sequence : ℕ → ℕ → Wish → Ref → Program Fetched
-sequence zero key wish at = record_at (λ at words next. found at words) key wish at
-sequence (suc follows) key wish at = record_at (λ at words next. sequence follows key wish next) key wish at
+-- the whole fetch in a pool of so many segments, which follows at most so many Unshares
+abbrev pub sequence : ℕ → ℕ → ℕ → Wish → Ref → Program Fetched
+sequence segments zero key wish at = record_at (λ at words next. found at words) segments key wish at
+sequence segments (suc follows) key wish at = record_at (λ at words next. sequence segments follows key wish next) segments key wish at
 
 -- a turn of the machine: it goes on, or ends with what it has
 abbrev pub turn_by : FetchTurn → Fetching → Turn Fetching Fetched

@@ -1,11 +1,13 @@
-ghost use Rattle.std.specs.Prelude.{◌≡◌, ◌+◌, ◌*◌, ◌<◌, ◌^◌, ◌↔◌, true, IfOk, IsTrue, length};
+ghost use Rattle.std.specs.Prelude.{◌≡◌, ◌+◌, ◌*◌, ◌<◌, ◌≤◌, ◌^◌, ◌↔◌, true, IfOk, IsTrue, length};
+ghost use Rattle.dn_act.specs.Action.{at_of};
+ghost use Rattle.dn_word.specs.Regions.{segments_at};
 ghost use Rattle.dn_act.specs.Words.{pool_size};
-ghost use Rattle.dn_locate.specs.Fetch.{idle, started, fetch_next, fetch_turn, fetch_after, fetch_left, is_under_way, is_directory, IsDirectory, IsAstray, directory_of, from_of, joined, FitsStep};
+ghost use Rattle.dn_locate.specs.Fetch.{idle, of_pool, started, fetch_next, fetch_turn, fetch_after, fetch_left, is_under_way, is_directory, IsAstray, IsLoad, directory_of, joined, FitsStep};
 ghost use Rattle.dn_locate.specs.Sequence.{Fetches, sequence};
 
-use crate::steps::{FetchStep, after_content, after_header, after_link};
+use crate::steps::{FetchStep, after_content, after_directory, after_header, after_link};
 use dn_act::Action;
-use dn_word::regions::{SEGMENT_WORDS, directory_at, segment_at};
+use dn_word::regions::{POOL_SEGMENTS, SEGMENT_WORDS, directory_at};
 use dn_word::{OutOfMemory, Ref};
 use std::alloc::Global;
 use std::marker::Model;
@@ -49,7 +51,8 @@ pub enum FetchTurn {
     More,
     /// The words that were wished for are there.
     Done,
-    /// There is no record of the key: a loaded header says no record, or the loaded key is another one.
+    /// There is no record of the key: the directory word names no segment of the pool, the header says no record or one that crosses
+    /// the end of its segment, or the loaded key is another one.
     Absent,
 }
 
@@ -63,6 +66,7 @@ pub struct Fetch {
     place: FetchPlace,
     words: Vec<u64>,
     follows: u16,
+    segments: u32,
 }
 
 impl Model for Fetch {
@@ -79,6 +83,7 @@ impl Model for Fetch {
       words =
           f.words.items;
       follows = f.follows;
+      segments = f.segments;
     } };
 
     ghost invariant = { λ f. (133 ≤ vec_capacity f.words)
@@ -90,29 +95,22 @@ impl Model for Fetch {
           words =
               f.words.items;
           follows = f.follows;
+          segments = f.segments;
         }) };
 }
 
 /// The directory word of a place's segment.
 fn directory(at: Ref) -> u32
     requires { at.offset < 2 ^ 24 }
-    ensures { result ≡ directory_of at }
+    ensures value { result ≡ directory_of at }
+    ensures below { result < segments_at }
 {
     directory_at(0, 0) + 256 * at.lane as u32 + at.offset / SEGMENT_WORDS
 }
 
-/// The pool's word of a place, by its directory word.
-fn word_of(at: Ref, directory: u64) -> u32
-    requires least { 0 < directory }
-    requires most { directory < 8193 }
-    ensures value { result ≡ from_of at directory }
-    ensures below { result < pool_size 8192 }
-{
-    segment_at(directory as u32 - 1) + at.offset % SEGMENT_WORDS
-}
-
 impl Fetch {
-    /// No fetch is under way. Answers want of memory, or the fetch with its room for 133 words.
+    /// No fetch is under way, and the pool has 8,192 segments until `of_pool` says otherwise. Answers want of memory, or the fetch
+    /// with its room for 133 words.
     pub fn new(alloc: Global) -> Result<Fetch, OutOfMemory>
         ensures { IfOk result (λ fetch. fetch ≡ idle) }
     {
@@ -124,14 +122,24 @@ impl Fetch {
             place: FetchPlace::Idle,
             words,
             follows: 0,
+            segments: POOL_SEGMENTS,
         })
+    }
+
+    /// Says how many segments the pool has, at most 8,192. No fetch is under way then.
+    pub fn of_pool(&mut self, segments: u32)
+        requires { segments ≤ 8192 }
+        ensures { self.new ≡ of_pool self.old segments }
+    {
+        self.place = FetchPlace::Idle;
+        self.segments = segments;
     }
 
     /// Begins the fetch of a key's record at a place, whatever was under way.
     pub fn start(&mut self, key: u64, at: Ref, wish: Wish)
         requires { at.offset < 2 ^ 24 }
         ensures value { self.new ≡ started self.old key at wish }
-        ensures sequence { Fetches self.new (sequence 4096 key wish at) }
+        ensures sequence { Fetches self.new (sequence self.new.segments 4096 key wish at) }
     {
         self.key = key;
         self.wish = wish;
@@ -141,10 +149,12 @@ impl Fetch {
         self.follows = FOLLOWS;
     }
 
-    /// The next load of the fetch that is under way.
+    /// The next load of the fetch that is under way: of a directory word, or of a word of the pool's segments.
     pub fn next(&self) -> Action
         requires { is_under_way self.now ≡ true }
-        ensures { result ≡ fetch_next self.now }
+        ensures value { result ≡ fetch_next self.now }
+        ensures footprint { IsLoad result }
+        ensures inside { at_of result < pool_size self.now.segments }
     {
         let at = match self.place {
             FetchPlace::Idle => 0,
@@ -164,10 +174,10 @@ impl Fetch {
         matches!(self.place, FetchPlace::Directory)
     }
 
-    /// Takes the word that the load found. A directory word is from 1 to 8,192.
+    /// Takes the word that the load found, whatever it is. `Absent` comes exactly for a directory word that names no segment of the
+    /// pool, a header that says no record or one that crosses its segment's end, and another key word.
     pub fn take(&mut self, word: u64) -> FetchTurn
-        requires under_way { is_under_way self.old ≡ true }
-        requires directory { IsDirectory self.old.place word }
+        requires { is_under_way self.old ≡ true }
         ensures turn { result ≡ fetch_turn self.old word }
         ensures after { self.new ≡ fetch_after self.old word }
         ensures goes_on { result ≡ FetchTurn.More ↔ is_under_way self.new ≡ true }
@@ -178,10 +188,9 @@ impl Fetch {
         match self.place {
             FetchPlace::Idle => FetchTurn::Absent,
             FetchPlace::Directory => {
-                self.place = FetchPlace::Header {
-                    from: word_of(self.at, word),
-                };
-                FetchTurn::More
+                let step = after_directory(self.segments, self.at, word);
+                self.place = step.place;
+                step.turn
             }
             FetchPlace::Header { from } => { self.join(word, after_header(from, self.wish, word)) }
             FetchPlace::Content { from, count } => {
@@ -196,7 +205,8 @@ impl Fetch {
     /// Takes a word of the record and goes on by a step.
     fn join(&mut self, word: u64, step: FetchStep) -> FetchTurn
         requires room { length self.old.words < 133 }
-        requires fits { FitsStep (length self.old.words) self.old.follows step.place step.follow }
+        requires fits { FitsStep (length self.old.words) self.old.follows
+            (pool_size self.old.segments) step.place step.follow }
         ensures turn { result ≡ step.turn }
         ensures after { self.new ≡ joined self.old word step.place step.follow }
     {
@@ -210,14 +220,6 @@ impl Fetch {
         }
         self.place = step.place;
         step.turn
-    }
-
-    /// Whether the word that is loaded next is a directory word.
-    #[cfg(test)]
-    pub(crate) fn is_at_directory(&self) -> bool
-        ensures { IsTrue result ↔ (self.now.place ≡ FetchPlace.Directory) }
-    {
-        matches!(self.place, FetchPlace::Directory)
     }
 
     /// The words of the last record that were loaded so far, its header first.

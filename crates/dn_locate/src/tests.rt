@@ -68,7 +68,6 @@ fn finish(rt: &impl Abort, pool: &Sound, fetch: &mut Fetch) -> FetchTurn
         };
         assert!(rt; at < pool.size());
         let word = pool.word(at);
-        assert!(rt; !fetch.is_at_directory() || 0 < word && word <= 8192);
         match fetch.take(word) {
             FetchTurn::More => {}
             turn => return turn,
@@ -104,6 +103,40 @@ fn each_kind_is_fetched_as_it_is_wished(rt: HostRuntime) -> Result<(), Fail> {
         assert!(rt; record + words <= 20);
         let expected = &LOG[record as usize..(record + words) as usize];
         assert_eq!(rt; fetch.words(), expected, "{offset} {wish:?}");
+    }
+    Ok(())
+}
+
+/// The directory word of lane 1, the number of the pool's segments, the offset of a Put's header, and how its fetch ends.
+const ASTRAY: [(u64, u32, u32, FetchTurn); 6] = [
+    (1, 1, 0, FetchTurn::Done),
+    (0, 1, 0, FetchTurn::Absent),
+    (2, 1, 0, FetchTurn::Absent),
+    (8193, 8192, 0, FetchTurn::Absent),
+    // three words from offset 1021 end in the segment, and from 1022 they cross its end
+    (1, 1, 1021, FetchTurn::Done),
+    (1, 1, 1022, FetchTurn::Absent),
+];
+
+#[test]
+fn a_fetch_stays_in_the_segments_of_its_pool(rt: HostRuntime) -> Result<(), Fail> {
+    let mut pool = Sound::new(rt.alloc(), 1)?;
+    for at in [98304u32, 99325, 99326] {
+        assert!(rt; at < pool.size());
+        pool.store(at, 0x0100010000000300)?;
+    }
+    let mut fetch = Fetch::new(rt.alloc())?;
+    for (directory, segments, offset, turn) in ASTRAY {
+        assert!(rt; 1280 < pool.size());
+        pool.store(1280, directory)?;
+        assert!(rt; segments <= 8192 && offset < 1024);
+        fetch.of_pool(segments);
+        fetch.start(5, Ref { lane: 1, offset }, Wish::Kind);
+        assert_eq!(rt;
+            finish(&rt, &pool, &mut fetch),
+            turn,
+            "{directory} {offset}"
+        );
     }
     Ok(())
 }

@@ -1,2 +1,3 @@
 pub mod SequenceLaws
 pub mod TurnLaws
+pub mod WordLaws

@@ -1,4 +1,4 @@
-use Rattle.std.specs.Prelude.{◌≡◌, ◌≢◌, ℕ, ◌+◌, ◌*◌, ◌/◌, ◌%◌, ◌^◌, ◌<◌, ◌≤◌, ◌==◌, Option, Some, None, if◌then◌else◌}
+use Rattle.std.specs.Prelude.{◌≡◌, ◌≢◌, ℕ, ◌+◌, ◌/◌, ◌^◌, ◌<◌, ◌≤◌, ◌==◌, Option, Some, None, if◌then◌else◌}
 use Rattle.dn_word.specs.Regions.{segments_at}
 use Rattle.dn_act.specs.Words.{pool_size}
 use Rattle.dn_word.specs.Gate.{gate_of}
@@ -10,7 +10,7 @@ use Rattle.dn_record.specs.Reading.{head_in}
 use Rattle.dn_record.specs.declared.heads.Head.{Head}
 use Rattle.dn_record.specs.declared.heads.Head.TheVariants as head
 use Rattle.dn_model.specs.Regions.{gate_at, mark_at, directory_at, place_in, home_of}
-use Rattle.dn_index.specs.Walk.{Walking, begun, walk_next, walk_turn, walk_after, IsWord, IsFull as NeedsMore}
+use Rattle.dn_index.specs.Walk.{Walking, begun, walk_next, walk_turn, walk_after, IsFull as NeedsMore}
 use Rattle.dn_index.specs.declared.places.Errand.{Errand}
 use Rattle.dn_index.specs.declared.places.Errand.TheVariants as errand
 use Rattle.dn_index.specs.declared.places.WalkTurn.{WalkTurn}
@@ -121,7 +121,7 @@ Meets word (Mark gate) = word ≤ 262144
 Meets word (Directory mark) = (0 < word) × (word ≤ 8192)
 Meets word (Header mark from) = Unit {0}
 Meets word (Key mark from to change) = word ≢ 0
-Meets word (Walk to w) = IsWord w.place word
+Meets word (Walk to w) = Unit {0}
 Meets word (Pass to) = Unit {0}
 
 -- the gate and the mark that this turn loaded name one length

@@ -61,10 +61,11 @@ impl Merger {
         }
     }
 
-    /// The next action.
+    /// The next action: a load, a store of the lane's merged mark or of a word of a bucket, or an add of 1 to the overflow counter.
+    #[tactic(auto, using(crate::proofs::WordLaws::walk_within))]
     pub fn next(&self) -> Action
         ensures value { result ≡ merge_next self.now }
-        ensures within { IsOfMerger self.now.lane result }
+        ensures footprint { IsOfMerger self.now.lane result }
     {
         match self.place {
             MergePlace::Gate => Action::Load {
@@ -86,17 +87,19 @@ impl Merger {
         }
     }
 
-    /// Whether `take` may be given this word: a merged mark is at most 262,144, a directory word is from 1 to 8,192, a key word isn't 0,
-    /// and a word of the walk is one that the walk accepts.
+    /// Whether `take` may be given this word: a merged mark is at most 262,144, a directory word is from 1 to 8,192, and a key word
+    /// isn't 0.
     pub fn accepts(&self, word: u64) -> bool
         ensures { IsTrue result ↔ Meets word self.now.place }
     {
         match self.place {
-            MergePlace::Gate | MergePlace::Header { .. } | MergePlace::Pass { .. } => true,
+            MergePlace::Gate
+            | MergePlace::Header { .. }
+            | MergePlace::Walk { .. }
+            | MergePlace::Pass { .. } => true,
             MergePlace::Mark { .. } => word <= MAX_LOG_WORDS,
             MergePlace::Directory { .. } => word >= 1 && word <= POOL_SEGMENTS as u64,
             MergePlace::Key { .. } => word != 0,
-            MergePlace::Walk { walk, .. } => walk.accepts(word),
         }
     }
 

@@ -5,7 +5,7 @@ ghost use Rattle.dn_word.specs.Regions.{segments_at};
 ghost use Rattle.dn_model.specs.Regions.{place_in};
 ghost use Rattle.dn_act.specs.Words.{pool_size};
 ghost use Rattle.dn_record.specs.Reading.{head_in};
-ghost use Rattle.dn_index.specs.Walk.{walk_turn, walk_after, actions_left, IsWord, IsFull as NeedsMore};
+ghost use Rattle.dn_index.specs.Walk.{walk_turn, walk_after, actions_left, IsFull as NeedsMore};
 ghost use Rattle.dn_merge.specs.Merge.{ended, on, change_of, marked, headed, by_change, keyed, walked, FitsAt};
 ghost use Rattle.dn_merge.specs.Left.{HasFewer};
 
@@ -135,7 +135,6 @@ pub(crate) fn after_key(at: Ref, to: u32, change: Change, word: u64) -> MergeSte
 /// After a word of the walk: where the walk has ended the mark is next.
 pub(crate) fn after_walk(to: u32, walk: Walk, word: u64) -> MergeStep
     requires to { to < 327680 }
-    requires meets { IsWord walk.place word }
     ensures value { result ≡ walked to (walk_turn walk word) (walk_after walk word) }
     ensures fits { FitsAt result.place }
     ensures falls { HasFewer (1 + actions_left walk) result.place }

@@ -146,6 +146,7 @@ impl Lane {
             unreachable!()
         };
         let lane = self.log.lane();
+        self.fetch.of_pool(self.log.pool());
         self.fetch.start(
             key_of(&work.call),
             Ref { lane, offset },

@@ -1,0 +1,3 @@
+pub mod Find
+pub mod Fit
+pub mod Sequence
