@@ -2,7 +2,7 @@ ghost use Rattle.std.specs.Prelude.{◌≡◌, ◌≢◌, ◌<◌, ◌≤◌, �
 ghost use Rattle.std.specs.Option.{ForSome};
 ghost use Rattle.dn_word.specs.Regions.{IsLane};
 ghost use Rattle.dn_word.specs.Hash.{slot_of};
-ghost use Rattle.dn_log.specs.Log.{IsPlan};
+ghost use Rattle.dn_log.specs.Log.{plan_of, IsPlan};
 ghost use Rattle.dn_pending.specs.declared.entries.Entry.{Entry};
 ghost use Rattle.dn_plan.specs.Fit.{FitsEffect};
 ghost use Rattle.dn_known.specs.State.{KnownState, fresh, IsWithin};
@@ -172,12 +172,17 @@ impl Known {
         })
     }
 
-    /// Makes a claimed segment the log's spare one, where there is none and the lane has fewer than 256.
+    /// Makes a claimed segment the log's spare one, where there is none and the lane has fewer than 256. Then every plan
+    /// has its segment.
     pub fn keep(&mut self, segment: u32)
         requires none { self.old.log.spare ≡ None }
         requires count { length self.old.log.segments < 256 }
         requires segment { segment < self.old.log.pool }
-        ensures { self.new ≡ record self.old { log = record self.old.log { spare = Some segment } } }
+        ensures value { self.new ≡ record self.old {
+          log = record self.old.log { spare = Some segment };
+        } }
+        ensures reach { (words : ℕ) → words ≤ 1024
+            → (plan_of self.new.log words).need_segment ≡ false }
     {
         self.log.keep(segment);
     }

@@ -1,0 +1,4 @@
+pub mod Spelled
+pub mod Staged
+pub mod Room
+pub mod Sealing
