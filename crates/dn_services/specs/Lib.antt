@@ -2,3 +2,4 @@ pub mod Spelled
 pub mod Staged
 pub mod Room
 pub mod Sealing
+pub mod Sequence

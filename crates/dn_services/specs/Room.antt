@@ -4,7 +4,6 @@ use Rattle.dn_log.specs.declared.claims.Claim.{Claim}
 use Rattle.dn_log.specs.declared.claims.Claim.TheVariants as claim
 use Rattle.dn_log.specs.declared.claims.ClaimTurn.{ClaimTurn}
 use Rattle.dn_log.specs.declared.claims.ClaimTurn.TheVariants as told
-use Rattle.dn_plan.specs.declared.phases.Room.{Room}
 use Rattle.dn_plan.specs.declared.phases.Room.TheVariants.{Found, Full}
 use Rattle.dn_known.specs.State.{KnownState}
 use Rattle.dn_services.specs.declared.rooms.RoomTurn.{RoomTurn}

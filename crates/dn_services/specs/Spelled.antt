@@ -1,5 +1,4 @@
-use Rattle.std.specs.Prelude.{ℕ, ◌<◌, ◌^◌, List, []}
-use Rattle.std.specs.Option.{ForSome}
+use Rattle.std.specs.Prelude.{ℕ, List, []}
 use Rattle.dn_hist.specs.declared.calls.Call.{Call}
 use Rattle.dn_hist.specs.declared.calls.Call.TheVariants.{Get, Put, Delete}
 use Rattle.dn_record.specs.Record.{spelling, length_in_words}
@@ -31,8 +30,3 @@ call_words (Delete key) = length_in_words (rec.Delete key)
 abbrev pub task_record : ℕ → TendSeal → Record
 task_record key (seal.Share cell opening gate) = rec.Share key cell opening
 task_record key (seal.Unshare at stamp gate) = rec.Unshare key at
-
--- the numbers of a task's record are within their fields
-abbrev pub FitsTask : TendSeal → Type 0
-FitsTask (seal.Share cell opening gate) = Unit {0}
-FitsTask (seal.Unshare at stamp gate) = (stamp < 2 ^ 31) × ForSome at (λ place. place.offset < 2 ^ 24)

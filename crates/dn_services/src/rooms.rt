@@ -4,6 +4,7 @@ ghost use Rattle.std.specs.Prelude.{◌≡◌, ◌<◌, ◌≤◌, ◌↔◌, �
 ghost use Rattle.dn_log.specs.Log.{plan_of};
 ghost use Rattle.dn_log.specs.Claim.{turn_of, claim_after};
 ghost use Rattle.dn_services.specs.Room.{looked_for, turn_by, claimed_by, IsClaimFor, FitsTurn, actions_in, actions_left, HasAll, IsPoolFull};
+ghost use Rattle.dn_services.specs.Sequence.{Finds};
 
 use dn_known::Known;
 use dn_log::{Claim, ClaimTurn};
@@ -31,6 +32,7 @@ pub fn find_room(known: &Known, words: u16) -> RoomTurn
     ensures full { (counter segments : ℕ) →
         (result ≡ RoomTurn.Told (Room.Full counter segments)) ↔ HasAll known.now words counter segments }
     ensures left { actions_left result ≤ 2 }
+    ensures sequence { Finds known.now words result }
 {
     if !known.log().plan(words).need_segment {
         return RoomTurn::Told { room: Room::Found };

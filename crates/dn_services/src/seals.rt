@@ -6,7 +6,8 @@ ghost use Rattle.dn_act.specs.Words.{pool_size};
 ghost use Rattle.dn_word.specs.declared.packed.place.Ref.{Ref};
 ghost use Rattle.dn_hist.specs.Calls.{key_of};
 ghost use Rattle.dn_record.specs.Record.{spelling};
-ghost use Rattle.dn_services.specs.Spelled.{IsWrite, call_spelling, call_words, task_record, FitsTask};
+ghost use Rattle.dn_services.specs.Spelled.{IsWrite, call_spelling, call_words, task_record};
+ghost use Rattle.dn_tend.specs.Fit.{FitsRecord};
 ghost use Rattle.dn_log.specs.Log.{plan_of};
 ghost use Rattle.dn_services.specs.Staged.{staged_of, AreWithin};
 ghost use Rattle.dn_services.specs.Sealing.{place_in, next_of, turn_of, known_after, waits_after, call_seal, task_seal, IsReady, IsSealing};
@@ -88,7 +89,7 @@ impl Seal {
 
     /// Begins to seal the record of a task for its key. Its words wait from then on.
     pub fn of_task(known: &Known, staging: &mut Staging, key: u64, seal: TendSeal) -> Seal
-        requires task { FitsTask seal }
+        requires task { FitsRecord seal }
         requires ready { IsReady known.now 3 }
         requires empty { staging.old ≡ [] }
         ensures value { result ≡ task_seal key seal }

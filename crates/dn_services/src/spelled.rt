@@ -3,7 +3,8 @@
 ghost use Rattle.std.specs.Prelude.{◌≡◌, ◌≤◌, length, take};
 ghost use Rattle.dn_hist.specs.Calls.{key_of};
 ghost use Rattle.dn_record.specs.Record.{spelling};
-ghost use Rattle.dn_services.specs.Spelled.{IsWrite, call_spelling, call_words, task_record, FitsTask};
+ghost use Rattle.dn_services.specs.Spelled.{IsWrite, call_spelling, call_words, task_record};
+ghost use Rattle.dn_tend.specs.Fit.{FitsRecord};
 
 use dn_hist::Call;
 use dn_record::{Head, write_delete, write_put};
@@ -54,7 +55,7 @@ pub fn spell_call(call: &Call, out: &mut [u64]) -> usize
 
 /// The words of a task's record for this key.
 pub fn spell_task(key: u64, seal: TendSeal) -> [u64; 3]
-    requires { FitsTask seal }
+    requires { FitsRecord seal }
     ensures { result ≡ spelling (task_record key seal) }
 {
     match seal {

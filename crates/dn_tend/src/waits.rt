@@ -2,7 +2,7 @@
 
 ghost use Rattle.std.specs.Prelude.{◌≡◌, ◌<◌, ◌≤◌, ◌↔◌, ℕ, true, false};
 ghost use Rattle.dn_tend.specs.Tend.{seal_in, share_located, unshare_located, located_in, roomed_in, sealed_in};
-ghost use Rattle.dn_tend.specs.Fit.{FitsFound, FitsLocate, FitsRoom, FitsSeal, FitsThen, FitsAfter, FitsNext};
+ghost use Rattle.dn_tend.specs.Fit.{FitsFound, FitsLocate, FitsRoom, FitsSeal, FitsRecord, FitsThen, FitsAfter, FitsNext};
 ghost use Rattle.dn_tend.specs.Rank.{rank_then, rank_after, rank_next, records_then, records_after, records_next, has_room_after, has_room_next};
 ghost use Rattle.dn_tend.specs.Causes.{IsPlain, WasShared};
 
@@ -81,7 +81,8 @@ impl TendRoom {
 impl TendSealing {
     /// The record, and the gate word from which the exchange begins.
     pub fn sealing(self) -> TendSeal
-        ensures { result ≡ seal_in self }
+        ensures value { result ≡ seal_in self }
+        ensures fits { (lane : ℕ) → FitsSeal lane self → FitsRecord result }
     {
         match self {
             TendSealing::Share { share, cell } => TendSeal::Share {
