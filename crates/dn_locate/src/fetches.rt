@@ -231,7 +231,8 @@ impl Fetch {
 
     /// Where the last record that was fetched stands.
     pub fn place(&self) -> Ref
-        ensures { result ≡ self.now.at }
+        ensures value { result ≡ self.now.at }
+        ensures offset { result.offset < 2 ^ 24 }
     {
         self.at
     }

@@ -5,6 +5,7 @@ ghost use Rattle.dn_log.specs.Staged.{flow_of};
 use dn_act::Action;
 use dn_word::OutOfMemory;
 use std::alloc::Global;
+use std::collections::VecDeque;
 use std::marker::Model;
 
 /// The most words that wait: a record of 1,024 bytes has 130, and before it may stand a directory word and a pad's header.
@@ -21,21 +22,24 @@ pub struct Staged {
 
 /// The words that a lane has stored and that haven't reached the pool, the oldest first. They may flow in any order.
 /// Contracts see the list; it has room for 140.
+///
+/// They stand in a ring, since they mostly flow oldest first: then none of the others moves.
 #[derive(Drop)]
 pub struct Staging {
-    words: Vec<Staged>,
+    words: VecDeque<Staged>,
 }
 
 impl Model for Staging {
-    ghost use Rattle.std.specs.Prelude.{List, ◌≤◌, vec_len, vec_capacity};
+    ghost use Rattle.std.specs.Prelude.{List, ◌≤◌};
+    ghost use Rattle.std.specs.VecDeque.{deque_len, deque_capacity};
     ghost use Rattle.dn_log.specs.declared.staging.Staged.{Staged};
 
     ghost Value = { List Staged };
 
     ghost view = { λ staging. staging.words.items };
 
-    ghost invariant = { λ staging. (vec_len staging.words ≤ 140)
-        × (140 ≤ vec_capacity staging.words) };
+    ghost invariant = { λ staging. (deque_len staging.words ≤ 140)
+        × (140 ≤ deque_capacity staging.words) };
 }
 
 impl Staging {
@@ -43,7 +47,7 @@ impl Staging {
     pub fn new(alloc: Global) -> Result<Staging, OutOfMemory>
         ensures { IfOk result (λ staging. staging ≡ []) }
     {
-        let words = Vec::with_capacity(alloc, ROOM)?;
+        let words = VecDeque::with_capacity(alloc, ROOM)?;
         Ok(Staging { words })
     }
 
@@ -67,7 +71,7 @@ impl Staging {
         requires { length self.old < 140 }
         ensures { self.new ≡ self.old ++ record { at = at; word = word } ∷ [] }
     {
-        self.words.push(Staged { at, word }).unwrap();
+        self.words.push_back(Staged { at, word }).unwrap();
     }
 
     /// The store of the word at this place from the oldest, which is 0. None exactly where no more than `index` words wait.
@@ -81,12 +85,17 @@ impl Staging {
         })
     }
 
-    /// Takes that word out, where it is there; the others keep their order.
+    /// Takes that word out, where it is there; the others keep their order. For the oldest none of them moves.
     pub fn flowed(&mut self, index: u32)
         ensures { self.new ≡ remove self.old index }
     {
-        if (index as usize) < self.words.len() {
-            self.words.remove(index as usize);
-        }
+        self.words.remove(index as usize);
+    }
+
+    /// No word waits any more.
+    pub fn clear(&mut self)
+        ensures { self.new ≡ [] }
+    {
+        self.words.clear();
     }
 }

@@ -101,5 +101,18 @@ fn staged_words_flow_in_any_order(rt: HostRuntime) -> Result<(), Fail> {
     staging.flowed(0);
     assert_eq!(rt; staging.flow(0), None);
     assert!(rt; staging.is_empty());
+    for place in 0..140u32 {
+        assert!(rt; staging.len() < 140);
+        staging.put(place, place as u64);
+    }
+    staging.flowed(0);
+    assert!(rt; staging.len() < 140);
+    staging.put(140, 140);
+    assert_eq!(rt;
+        staging.flow(139),
+        Some(Action::Store { at: 140, word: 140 })
+    );
+    staging.clear();
+    assert!(rt; staging.is_empty());
     Ok(())
 }

@@ -130,11 +130,12 @@ unshare_gate_comes lane u = (
       (refl, refl, (refl, refl, λ seen. cell_comes lane gate seen u)),
 )
 
-unshare_found_comes : (lane look : ℕ) (f : TendFound)
-    → Comes lane (unshare_found lane (deed_of look).floor f) (goes (next.After (located_in (locate.Unshare look) f)))
-unshare_found_comes lane look found.Nothing = (refl, refl)
-unshare_found_comes lane look (found.At place) = (refl, refl)
-unshare_found_comes lane look (found.Shared cell opening) = unshare_gate_comes lane (record { look = look; cell = cell; opening = opening })
+unshare_found_comes : (lane key look : ℕ) (f : TendFound)
+    → Comes lane (unshare_found lane (deed_of look).floor f) (goes (next.After (located_in (locate.Unshare key look) f)))
+unshare_found_comes lane key look found.Nothing = (refl, refl)
+unshare_found_comes lane key look (found.At place) = (refl, refl)
+unshare_found_comes lane key look (found.Shared cell opening) =
+    unshare_gate_comes lane (record { key = key; look = look; cell = cell; opening = opening })
 
 -- ---- a look
 looked_by : (lane look : ℕ) (behind : TendFound → TaskPlan) (phase : TendLocate) (owner : Bool)
@@ -160,8 +161,8 @@ follows_of lane (task.Unshare key) = (
   refl,
   λ look. (
     refl,
-    looked_by lane look (λ f. unshare_found lane (deed_of look).floor f) (locate.Unshare look) (is_owner lane look)
-        (λ f. unshare_found_comes lane look f),
+    looked_by lane look (λ f. unshare_found lane (deed_of look).floor f) (locate.Unshare key look) (is_owner lane look)
+        (λ f. unshare_found_comes lane key look f),
   ),
 )
 

@@ -65,13 +65,13 @@ IsWorn stamp word phase = ⊥
 -- what was located isn't a Share
 abbrev pub IsPlain : TendLocate → TendFound → Type 0
 IsPlain (locate.Share key look) found = ⊥
-IsPlain (locate.Unshare look) found.Nothing = Unit {0}
-IsPlain (locate.Unshare look) (found.At place) = Unit {0}
-IsPlain (locate.Unshare look) (found.Shared cell opening) = ⊥
+IsPlain (locate.Unshare key look) found.Nothing = Unit {0}
+IsPlain (locate.Unshare key look) (found.At place) = Unit {0}
+IsPlain (locate.Unshare key look) (found.Shared cell opening) = ⊥
 
 -- a key that is to be shared was located as a Share
 abbrev pub WasShared : ℕ → TendLocate → TendFound → Type 0
 WasShared cell (locate.Share key look) found.Nothing = ⊥
 WasShared cell (locate.Share key look) (found.At place) = ⊥
 WasShared cell (locate.Share key look) (found.Shared has opening) = cell ≡ has
-WasShared cell (locate.Unshare look) found = ⊥
+WasShared cell (locate.Unshare key look) found = ⊥

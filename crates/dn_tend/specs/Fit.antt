@@ -8,6 +8,8 @@ use Rattle.dn_tend.specs.declared.tasks.Task.{Task}
 use Rattle.dn_tend.specs.declared.tasks.Task.TheVariants as task
 use Rattle.dn_tend.specs.declared.tasks.TendFound.{TendFound}
 use Rattle.dn_tend.specs.declared.tasks.TendFound.TheVariants as found
+use Rattle.dn_tend.specs.declared.tasks.TendSeal.{TendSeal}
+use Rattle.dn_tend.specs.declared.tasks.TendSeal.TheVariants as sealing
 use Rattle.dn_tend.specs.declared.phases.TendAct.{TendAct}
 use Rattle.dn_tend.specs.declared.phases.TendAct.TheVariants as at
 use Rattle.dn_tend.specs.declared.phases.TendLocate.{TendLocate}
@@ -49,20 +51,20 @@ abbrev pub FitsAct : ℕ → TendAct → Type 0
 FitsAct lane (at.Deed slot) = slot < 64
 FitsAct lane (at.GiveUp slot deed) = (slot < 64) × (asks_to_leave lane deed ≡ true)
 FitsAct lane at.Mark = Unit {0}
-FitsAct lane (at.ShareLook key) = Unit {0}
+FitsAct lane (at.ShareLook key) = key ≢ 0
 FitsAct lane (at.ShareGate key look place) = IsLook lane look × ForSome place (λ found. found.offset < 2 ^ 24)
 FitsAct lane (at.Count share) = IsLook lane share.look × WasOpen share.gate
 FitsAct lane (at.Claim share) = IsLook lane share.look × WasOpen share.gate
 FitsAct lane (at.Name share cell) = IsLook lane share.look × WasOpen share.gate
 FitsAct lane (at.Open share cell) = IsLook lane share.look × WasOpen share.gate
-FitsAct lane (at.UnshareLook key) = Unit {0}
+FitsAct lane (at.UnshareLook key) = key ≢ 0
 FitsAct lane (at.UnshareGate unshare) = IsLook lane unshare.look
 FitsAct lane (at.Cell unshare gate) = IsLook lane unshare.look × WasOpen gate
 FitsAct lane (at.Close unshare gate seen stamp) = IsLook lane unshare.look × WasOpen gate × (stamp < 2 ^ 31)
 
 abbrev pub FitsLocate : ℕ → TendLocate → Type 0
-FitsLocate lane (locate.Share key look) = IsLook lane look
-FitsLocate lane (locate.Unshare look) = IsLook lane look
+FitsLocate lane (locate.Share key look) = (key ≢ 0) × IsLook lane look
+FitsLocate lane (locate.Unshare key look) = (key ≢ 0) × IsLook lane look
 
 abbrev pub FitsRoom : ℕ → TendRoom → Type 0
 FitsRoom lane (find.Share share) = IsLook lane share.look × WasOpen share.gate
@@ -70,7 +72,8 @@ FitsRoom lane (find.Unshare unshare gate) = IsLook lane unshare.look × WasOpen 
 
 abbrev pub FitsSeal : ℕ → TendSealing → Type 0
 FitsSeal lane (seal.Share share cell) = IsLook lane share.look × WasOpen share.gate
-FitsSeal lane (seal.Unshare unshare place stamp gate) = IsLook lane unshare.look × WasOpen gate × (stamp < 2 ^ 31)
+FitsSeal lane (seal.Unshare unshare place stamp gate) =
+    IsLook lane unshare.look × WasOpen gate × (stamp < 2 ^ 31) × ForSome place (λ found. found.offset < 2 ^ 24)
 
 abbrev pub FitsThen : ℕ → TendThen → Type 0
 FitsThen lane (thence.Act phase) = FitsAct lane phase
@@ -84,6 +87,11 @@ FitsAfter lane (after.Then to) = FitsThen lane to
 abbrev pub FitsNext : ℕ → TendNext → Type 0
 FitsNext lane (next.Locate phase) = FitsLocate lane phase
 FitsNext lane (next.After to) = FitsAfter lane to
+
+-- the numbers of a record that is sealed fit their fields
+abbrev pub FitsRecord : TendSeal → Type 0
+FitsRecord (sealing.Share cell opening gate) = Unit {0}
+FitsRecord (sealing.Unshare place stamp gate) = (stamp < 2 ^ 31) × ForSome place (λ found. found.offset < 2 ^ 24)
 
 pub record FitsTurn (lane : ℕ) (turn : TendTurn) : Type 0 where
   pub known : FitsEffect turn.effect

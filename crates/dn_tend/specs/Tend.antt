@@ -171,7 +171,7 @@ taken_in lane (at.Count share) word = counted word (acts (at.Claim share))
 taken_in lane (at.Claim share) word = counted word (acts (at.Name share word))
 taken_in lane (at.Name share cell) word = goes (seals (seal.Share share cell))
 taken_in lane (at.Open share cell) word = goes (ends (Shared cell))
-taken_in lane (at.UnshareLook key) word = looked lane key word (locate.Unshare word)
+taken_in lane (at.UnshareLook key) word = looked lane key word (locate.Unshare key word)
 taken_in lane (at.UnshareGate unshare) word = unshare_gated unshare word
 taken_in lane (at.Cell unshare gate) word = goes (cell_met unshare gate word)
 taken_in lane (at.Close unshare gate seen stamp) word = exchanged seen word (seals (unshare_seal unshare gate seen stamp))
@@ -182,15 +182,15 @@ share_located key look found.Nothing = thence.Act (at.ShareGate key look None)
 share_located key look (found.At place) = thence.Act (at.ShareGate key look (Some place))
 share_located key look (found.Shared cell opening) = thence.Done (Shared cell)
 
-abbrev pub unshare_located : ℕ → TendFound → TendThen
-unshare_located look found.Nothing = thence.Done Plain
-unshare_located look (found.At place) = thence.Done Plain
-unshare_located look (found.Shared cell opening) =
-    thence.Act (at.UnshareGate (record { look = look; cell = cell; opening = opening }))
+abbrev pub unshare_located : ℕ → ℕ → TendFound → TendThen
+unshare_located key look found.Nothing = thence.Done Plain
+unshare_located key look (found.At place) = thence.Done Plain
+unshare_located key look (found.Shared cell opening) =
+    thence.Act (at.UnshareGate (record { key = key; look = look; cell = cell; opening = opening }))
 
 abbrev pub located_in : TendLocate → TendFound → TendAfter
 located_in (locate.Share key look) found = after.Then (share_located key look found)
-located_in (locate.Unshare look) found = after.Then (unshare_located look found)
+located_in (locate.Unshare key look) found = after.Then (unshare_located key look found)
 
 abbrev pub roomed_in : TendRoom → TendThen
 roomed_in (find.Share share) = thence.Act (at.Count share)

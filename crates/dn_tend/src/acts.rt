@@ -83,6 +83,7 @@ fn give_up(deed: u64) -> u64
 fn read_cell(opening: u64, seen: u64) -> Cell
     ensures value { result ≡ cell_in opening seen }
     ensures stamp { result.stamp < 2 ^ 31 }
+    ensures at { ForSome result.at (λ found. found.offset < 2 ^ 24) }
 {
     if seen == 0 {
         Cell::read(opening)
@@ -264,7 +265,8 @@ fn after_claim(lane: u8, share: Share, counter: u64) -> TendTurn
 
 /// The record that ends the sharing.
 fn unshare_seal(unshare: Unshare, gate: u64, seen: u64, stamp: u32) -> TendSealing
-    ensures { result ≡ unshare_seal unshare gate seen stamp }
+    ensures value { result ≡ unshare_seal unshare gate seen stamp }
+    ensures at { ForSome (cell_in unshare.opening seen).at (λ found. found.offset < 2 ^ 24) }
 {
     TendSealing::Unshare {
         unshare,
@@ -412,7 +414,7 @@ impl TendAct {
             TendAct::Name { share, cell } => { go(seal(TendSealing::Share { share, cell })) },
             TendAct::Open { cell, .. } => go(end(TaskAnswer::Shared { cell })),
             TendAct::UnshareLook { key } => {
-                after_look(lane, key, word, TendLocate::Unshare { look: word })
+                after_look(lane, key, word, TendLocate::Unshare { key, look: word })
             }
             TendAct::UnshareGate { unshare } => after_unshare_gate(lane, unshare, word),
             TendAct::Cell { unshare, gate } => go(after_cell(lane, unshare, gate, word)),

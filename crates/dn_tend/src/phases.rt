@@ -12,9 +12,10 @@ pub struct Share {
     pub opening: u64,
 }
 
-/// What a task knows that located a shared key: its look, and what the key's record says.
+/// What a task knows that located a shared key: the key, its look, and what the key's record says.
 #[derive(Clone, Copy)]
 pub struct Unshare {
+    pub key: u64,
     pub look: u64,
     pub cell: u8,
     pub opening: u64,
@@ -89,7 +90,7 @@ pub enum TendAct {
 #[derive(Clone, Copy)]
 pub enum TendLocate {
     Share { key: u64, look: u64 },
-    Unshare { look: u64 },
+    Unshare { key: u64, look: u64 },
 }
 
 /// Waits for room for a record.

@@ -1,6 +1,7 @@
 ghost use Rattle.std.specs.Prelude.{◌≡◌};
 ghost use Rattle.dn_word.specs.Regions.{IsLane};
-ghost use Rattle.dn_tend.specs.Fit.{FitsTask, FitsFound, FitsNext};
+ghost use Rattle.dn_tend.specs.Fit.{FitsTask, FitsFound, FitsNext, FitsRecord};
+ghost use Rattle.dn_tend.specs.declared.tasks.TendSeal.{TendSeal};
 ghost use Rattle.dn_tend.specs.Plan.{begun, begun_in, step_of, turn_of, located_next, roomed_next, sealed_next};
 ghost use Rattle.dn_tend.specs.Program.{CarriesOut};
 ghost use Rattle.dn_tend.specs.Sequence.{task_plan};
@@ -60,7 +61,8 @@ impl TendPlan {
 
     /// What the task asks for.
     pub fn step(&self) -> TendStep
-        ensures { result ≡ step_of self.now }
+        ensures value { result ≡ step_of self.now }
+        ensures fits { (seal : TendSeal) → result ≡ TendStep.Seal seal → FitsRecord seal }
     {
         match self.wait {
             TendNext::Locate(_) => TendStep::Locate,

@@ -2,7 +2,7 @@
 
 ghost use Rattle.std.specs.Prelude.{◌≡◌, ◌<◌, ◌≤◌, ◌↔◌, ℕ, true, false};
 ghost use Rattle.dn_tend.specs.Tend.{seal_in, share_located, unshare_located, located_in, roomed_in, sealed_in};
-ghost use Rattle.dn_tend.specs.Fit.{FitsFound, FitsLocate, FitsRoom, FitsSeal, FitsThen, FitsAfter, FitsNext};
+ghost use Rattle.dn_tend.specs.Fit.{FitsFound, FitsLocate, FitsRoom, FitsSeal, FitsRecord, FitsThen, FitsAfter, FitsNext};
 ghost use Rattle.dn_tend.specs.Rank.{rank_then, rank_after, rank_next, records_then, records_after, records_next, has_room_after, has_room_next};
 ghost use Rattle.dn_tend.specs.Causes.{IsPlain, WasShared};
 
@@ -45,9 +45,10 @@ impl TendLocate {
             (TendLocate::Share { .. }, TendFound::Shared { cell, .. }) => {
                 TendThen::Done(TaskAnswer::Shared { cell })
             }
-            (TendLocate::Unshare { look }, TendFound::Shared { cell, opening }) => {
+            (TendLocate::Unshare { key, look }, TendFound::Shared { cell, opening }) => {
                 TendThen::Act(TendAct::UnshareGate {
                     unshare: Unshare {
+                        key,
                         look,
                         cell,
                         opening,
@@ -81,7 +82,8 @@ impl TendRoom {
 impl TendSealing {
     /// The record, and the gate word from which the exchange begins.
     pub fn sealing(self) -> TendSeal
-        ensures { result ≡ seal_in self }
+        ensures value { result ≡ seal_in self }
+        ensures fits { (lane : ℕ) → FitsSeal lane self → FitsRecord result }
     {
         match self {
             TendSealing::Share { share, cell } => TendSeal::Share {

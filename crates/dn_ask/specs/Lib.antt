@@ -1,0 +1,4 @@
+pub mod Ask
+pub mod Fit
+pub mod Rank
+pub mod Causes

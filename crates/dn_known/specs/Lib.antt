@@ -1,0 +1,4 @@
+pub mod State
+pub mod Learnt
+pub mod Counting
+pub mod Sealed

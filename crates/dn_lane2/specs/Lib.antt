@@ -1,0 +1,11 @@
+pub mod Asked
+pub mod Found
+pub mod Taken
+pub mod Fit
+pub mod Left
+pub mod Ends
+pub mod State
+pub mod Next
+pub mod Turns
+pub mod Refused
+pub mod Inside

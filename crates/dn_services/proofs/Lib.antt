@@ -1,0 +1,2 @@
+pub mod StagedLemmas
+pub mod SequenceLaws
