@@ -1,3 +1,4 @@
 pub mod Find
 pub mod Fit
 pub mod Sequence
+pub mod Causes

@@ -1,9 +1,11 @@
-ghost use Rattle.std.specs.Prelude.{◌≡◌, ◌≢◌, ◌<◌, ◌+◌, ◌*◌, true};
+ghost use Rattle.std.specs.Prelude.{◌≡◌, ◌≢◌, ◌<◌, ◌+◌, ◌*◌, ◌↔◌, true, false};
 ghost use Rattle.dn_act.specs.Action.{at_of};
 ghost use Rattle.dn_act.specs.Words.{pool_size};
 ghost use Rattle.dn_index.specs.Footprint.{purpose, Finds};
 ghost use Rattle.dn_locate.specs.Fetch.{is_under_way, IsLoad};
 ghost use Rattle.dn_find.specs.Find.{locating, started, find_next, walked, fetched, found_of};
+ghost use Rattle.dn_find.specs.Causes.{IsWithout};
+ghost use Rattle.dn_plan.specs.declared.phases.Way.{Way};
 ghost use Rattle.dn_find.specs.Fit.{IsNear, FitsFind, FitsFound, find_left, HasFewer};
 ghost use Rattle.dn_find.specs.Sequence.{Locates, locate};
 
@@ -39,6 +41,8 @@ fn walk_on(walk: Walk, fetch: &mut Fetch, key: u64, wish: Wish, word: u64) -> Fo
     ensures found { result ≡ (walked fetch.old key wish walk word).found }
     ensures fetch { fetch.new ≡ (walked fetch.old key wish walk word).fetch }
     ensures fits { FitsFound fetch.new result }
+    ensures without { (way : Way) → result ≡ Found.Here way false
+        ↔ IsWithout fetch.old word way (Find.Walk walk) }
     ensures falls { HasFewer (find_left fetch.old (Find.Walk walk)) fetch.new result }
 {
     let mut walk = walk;
@@ -65,6 +69,8 @@ fn fetch_on(way: Way, fetch: &mut Fetch, word: u64) -> Found
     ensures found { result ≡ (fetched fetch.old way word).found }
     ensures fetch { fetch.new ≡ (fetched fetch.old way word).fetch }
     ensures fits { FitsFound fetch.new result }
+    ensures without { (told : Way) → result ≡ Found.Here told false
+        ↔ IsWithout fetch.old word told (Find.Fetch way) }
     ensures falls { HasFewer (find_left fetch.old (Find.Fetch way)) fetch.new result }
 {
     match fetch.take(word) {
@@ -117,13 +123,16 @@ impl Find {
         }
     }
 
-    /// Takes the word that the load found, whatever it is, for the key and wish that the location was begun with.
+    /// Takes the word that the load found, whatever it is, for the key and wish that the location was begun with. `Here`
+    /// without a record comes exactly where the walk ended without a place, or the fetch met what is no record of the key.
     pub fn take(self, fetch: &mut Fetch, key: u64, wish: Wish, word: u64) -> Found
         requires { FitsFind fetch.old self }
         ensures found { result ≡ (found_of fetch.old key wish self word).found }
         ensures fetch { fetch.new ≡ (found_of fetch.old key wish self word).fetch }
         ensures pool { fetch.new.segments ≡ fetch.old.segments }
         ensures fits { FitsFound fetch.new result }
+        ensures without { (way : Way) → result ≡ Found.Here way false
+            ↔ IsWithout fetch.old word way self }
         ensures falls { HasFewer (find_left fetch.old self) fetch.new result }
     {
         match self {

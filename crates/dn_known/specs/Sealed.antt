@@ -4,10 +4,11 @@ use Rattle.dn_log.specs.declared.plans.Plan.{Plan}
 use Rattle.dn_pending.specs.Table.{Table}
 use Rattle.dn_known.specs.State.{KnownState}
 
--- a record at this offset is pending for the key of which it says who decides, if any
+-- a record at this offset is pending for the key whose value it says where to find, if it says that of one
 abbrev pub with_pending : Option ℕ → ℕ → Table → Table
 with_pending None at table = table
-with_pending (Some key) at table = record { entries = table.entries ++ record { key = key; at = at } ∷ []; spare = table.spare - 1 }
+with_pending (Some key) at table =
+    record { entries = table.entries ++ record { key = key; at = at } ∷ []; spare = table.spare - 1 }
 
 -- the lane once its plan's record is sealed
 abbrev pub sealed_by : KnownState → Plan → Option ℕ → KnownState

@@ -135,8 +135,8 @@ impl Known {
         self.pending.drop_below(mark.min(u64::from(end)) as u32);
     }
 
-    /// Takes over what a step of a plan tells. At another epoch of a slot than the lane knew none of the slot's pending
-    /// records counts any more; at the same epoch nothing changes.
+    /// Takes over what a step of a plan tells. At another epoch of a slot than the lane knew none of the slot's
+    /// pending records counts any more; at the same epoch nothing changes.
     pub fn learn(&mut self, effect: Effect)
         requires { FitsEffect (Some effect) }
         ensures value { self.new ≡ learnt self.old effect }
@@ -152,8 +152,8 @@ impl Known {
         }
     }
 
-    /// The place of the key's last pending record, where it counts: it isn't older than the epoch of the key's slot that
-    /// the lane knows. Of the key's pending records that count it is the one with the greatest offset.
+    /// The place of the key's last pending record, where it counts: where it isn't older than the epoch of the key's
+    /// slot that the lane knows. Of the key's pending records that count it is the one with the greatest offset.
     pub fn pending(&self, key: u64) -> Option<Ref>
         ensures value { result ≡ pending_of self.now key }
         ensures counts { IfSome result (λ place. IsCounting self.now key place.offset) }
@@ -174,8 +174,8 @@ impl Known {
         })
     }
 
-    /// Makes a claimed segment the log's spare one, where there is none and the lane has fewer than 256. Then every plan
-    /// has its segment.
+    /// Makes a claimed segment the log's spare one, where there is none and the lane has fewer than 256. Then every
+    /// plan has its segment.
     pub fn keep(&mut self, segment: u32)
         requires none { self.old.log.spare ≡ None }
         requires count { length self.old.log.segments < 256 }
@@ -189,8 +189,8 @@ impl Known {
         self.log.keep(segment);
     }
 
-    /// The record of a plan that the log gives now is sealed. For a key it is the last pending one from then on; a record
-    /// that says nothing of who decides has none.
+    /// The record of a plan that the log gives now is sealed. It is the last pending one of the key from then on; a
+    /// record that says nothing of where its key's value is from then on is pending for none.
     pub fn sealed(&mut self, plan: &Plan, key: Option<u64>)
         requires plan { (words : ℕ) × IsPlan self.old.log plan.now words }
         requires room { plan.now.need_segment ≡ false }

@@ -1,5 +1,5 @@
-use Rattle.std.proofs.Common.{rules, ◌≡◌, ◌<◌, ◌+◌, ◌*◌, ℕ, suc, List, [], ◌++◌, take, drop, refl, ap, ◌∙◌}
-use Rattle.std.specs.List.{All, remove}
+use Rattle.std.proofs.Common.{rules, ◌≡◌, ◌<◌, ℕ, suc, List, [], ◌++◌, take, drop, ap, ◌∙◌}
+use Rattle.std.specs.List.{remove}
 use Rattle.std.proofs.lemmas.List.Elements.{All-append, All-take, All-drop}
 use Rattle.dn_act.specs.Words.{pool_size}
 use Rattle.dn_log.specs.declared.staging.Staged.{Staged}
@@ -34,4 +34,5 @@ flowed_fits g a i (mode.Sealing wait seal) f =
         ready = h.ready;
         within = All-append P (take i g.staging) (drop (suc i) g.staging) (All-take P i g.staging h.within) (All-drop P (suc i) g.staging h.within);
       },
+      f.3,
     )

@@ -1,2 +1,9 @@
 pub mod StepLemmas
 pub mod FlowLemmas
+pub mod ServiceRuns
+pub mod CallRuns
+pub mod TaskKeys
+pub mod TaskRuns
+pub mod BeginLaws
+pub mod FootprintLaws
+pub mod CallCauseLaws

@@ -1,7 +1,7 @@
-use Rattle.std.proofs.Common.{◌≡◌, ◌≢◌, ℕ, ◌*◌, ◌==◌, List, [], ◌∷◌, Bool, true, false, Option, Some, None, nat_lt, length, if◌then◌else◌, refl, sym, subst, ◌∙◌}
+use Rattle.std.proofs.Common.{◌≡◌, ℕ, ◌*◌, ◌==◌, List, [], ◌∷◌, Bool, true, false, Option, Some, None, nat_lt, length, if◌then◌else◌, refl, subst, ◌∙◌}
 use Rattle.dn_hist.specs.declared.calls.Call.{Call}
 use Rattle.dn_hist.specs.declared.calls.Call.TheVariants.{Get, Put, Delete}
-use Rattle.dn_log.specs.Log.{Log, plan_of, reach_of, sealed_of}
+use Rattle.dn_log.specs.Log.{Log, plan_of, reach_of}
 use Rattle.dn_log.specs.declared.claims.ClaimTurn.{ClaimTurn}
 use Rattle.dn_log.specs.declared.claims.ClaimTurn.TheVariants as told
 use Rattle.dn_log.specs.declared.plans.Plan.{Plan}
@@ -63,8 +63,11 @@ sealed_pool : (log : Log) (plan : Plan) (b : Bool)
 sealed_pool log plan true = refl
 sealed_pool log plan false = refl
 
+pub sealed_by_lane : (k : KnownState) (plan : Plan) (key : Option ℕ) → (sealed_by k plan key).log.lane ≡ k.log.lane
+sealed_by_lane k plan key = sealed_lane k.log plan (nat_lt (1024 * length k.log.segments) plan.len)
+
 exchanged_lane : (k : KnownState) (plan : Plan) (key : Option ℕ) (b : Bool) → (if b then sealed_by k plan key else k).log.lane ≡ k.log.lane
-exchanged_lane k plan key true = sealed_lane k.log plan (nat_lt (1024 * length k.log.segments) plan.len)
+exchanged_lane k plan key true = sealed_by_lane k plan key
 exchanged_lane k plan key false = refl
 
 exchanged_pool : (k : KnownState) (plan : Plan) (key : Option ℕ) (b : Bool) → (if b then sealed_by k plan key else k).log.pool ≡ k.log.pool

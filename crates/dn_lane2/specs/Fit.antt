@@ -1,5 +1,6 @@
 use Rattle.std.specs.Prelude.{◌≡◌, ◌≤◌, [], true, false}
 use Rattle.dn_log.specs.Log.{plan_of}
+use Rattle.dn_ask.specs.Ask.{record_in}
 use Rattle.dn_ask.specs.Fit.{FitsAct, FitsLocate, FitsRoom, FitsSeal, FitsEnd}
 use Rattle.dn_ask.specs.Rank.{records_act, records_locate, records_room, records_seal, has_room_act}
 use Rattle.dn_find.specs.Fit.{FitsFind}
@@ -7,6 +8,7 @@ use Rattle.dn_known.specs.State.{KnownState}
 use Rattle.dn_services.specs.Room.{IsClaimFor}
 use Rattle.dn_services.specs.Sealing.{IsSealing}
 use Rattle.dn_lane2.specs.Asked.{brief_of, words_in, MaySeal}
+use Rattle.dn_lane2.specs.Taken.{sealing_by}
 use Rattle.dn_lane2.specs.declared.asked.Asked.{Asked}
 use Rattle.dn_lane2.specs.declared.base.Base.{Base}
 use Rattle.dn_lane2.specs.declared.modes.Going.{Going}
@@ -34,6 +36,7 @@ FitsMode g a (mode.Claiming wait claim) =
     × (records_room wait ≤ g.known.pending.spare) × IsClaimFor g.known.log claim
 FitsMode g a (mode.Sealing wait seal) =
     FitsSeal (brief_of g.known.log.lane a) wait × (records_seal wait ≤ g.known.pending.spare) × IsSealing g.known seal g.staging
+    × (seal ≡ sealing_by a (record_in wait))
 
 abbrev pub FitsGoing : Base → Asked → Going → Type 0
 FitsGoing g a (On mode) = FitsMode g a mode

@@ -27,3 +27,11 @@ is_working (mode.Acting wait) = true
 is_working (mode.Finding wait find) = true
 is_working (mode.Claiming wait claim) = true
 is_working (mode.Sealing wait seal) = true
+
+-- whether a record is being sealed
+abbrev pub is_sealing : Mode → Bool
+is_sealing mode.Idle = false
+is_sealing (mode.Acting wait) = false
+is_sealing (mode.Finding wait find) = false
+is_sealing (mode.Claiming wait claim) = false
+is_sealing (mode.Sealing wait seal) = true

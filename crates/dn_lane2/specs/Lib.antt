@@ -9,3 +9,7 @@ pub mod Next
 pub mod Turns
 pub mod Refused
 pub mod Inside
+pub mod Program
+pub mod Sequence
+pub mod Footprint
+pub mod CallCauses

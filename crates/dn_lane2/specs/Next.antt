@@ -1,4 +1,4 @@
-use Rattle.std.specs.Prelude.{ℕ, Option, Some, None}
+use Rattle.std.specs.Prelude.{Option, Some, None}
 use Rattle.dn_act.specs.declared.actions.Action.{Action}
 use Rattle.dn_ask.specs.Ask.{action_in}
 use Rattle.dn_find.specs.Find.{find_next}

@@ -1,4 +1,4 @@
-use Rattle.std.specs.Prelude.{ℕ, [], None, List}
+use Rattle.std.specs.Prelude.{ℕ, [], List}
 use Rattle.dn_hist.specs.declared.calls.Call.{Call}
 use Rattle.dn_hist.specs.declared.receipts.SessionView.{SessionView}
 use Rattle.dn_locate.specs.Fetch.{idle, of_pool}
@@ -9,7 +9,7 @@ use Rattle.dn_tend.specs.declared.tasks.Task.TheVariants as task
 use Rattle.dn_tend.specs.declared.phases.TendAct.{TendAct}
 use Rattle.dn_tend.specs.declared.phases.TendAct.TheVariants as at
 use Rattle.dn_ask.specs.declared.asks.Act.TheVariants as act
-use Rattle.dn_known.specs.State.{KnownState, fresh as fresh_known}
+use Rattle.dn_known.specs.State.{fresh as fresh_known}
 use Rattle.dn_lane2.specs.declared.asked.Asked.{Asked}
 use Rattle.dn_lane2.specs.declared.asked.Asked.TheVariants as asked
 use Rattle.dn_lane2.specs.declared.base.Base.{Base}

@@ -1,6 +1,4 @@
-use Rattle.std.specs.Prelude.{ℕ, List, [], ◌∷◌, Option, Some, None, Bool, true, false}
-use Rattle.dn_word.specs.declared.packed.place.Ref.{Ref}
-use Rattle.dn_hist.specs.declared.calls.Call.{Call}
+use Rattle.std.specs.Prelude.{ℕ, List, Option, Some, None, Bool, true, false}
 use Rattle.dn_record.specs.Record.{spelling}
 use Rattle.dn_locate.specs.Fetch.{Fetching}
 use Rattle.dn_log.specs.Claim.{turn_of as claim_turn, claim_after}

@@ -1,16 +1,21 @@
-ghost use Rattle.std.specs.Prelude.{◌≡◌, ◌≢◌, ◌<◌, ◌≤◌, ◌^◌, None, true, length, IfOk, OnOk, OnErr, IfErr, IfSome};
+ghost use Rattle.std.specs.Prelude.{◌≡◌, ◌≢◌, ◌<◌, ◌≤◌, ◌^◌, [], None, true, false, length, IfOk, OnOk, OnErr, IfErr, IfSome};
 ghost use Rattle.dn_word.specs.Regions.{IsLane};
 ghost use Rattle.dn_act.specs.Action.{at_of};
 ghost use Rattle.dn_act.specs.Words.{pool_size};
 ghost use Rattle.dn_hist.specs.Calls.{key_of};
 ghost use Rattle.dn_log.specs.Staged.{flow_of};
 ghost use Rattle.dn_tend.specs.Fit.{FitsTask};
-ghost use Rattle.dn_lane2.specs.State.{LaneState, fresh, begun, begun_task, first_of, halted};
+ghost use Rattle.dn_lane2.specs.State.{LaneState, fresh, reserved, begun, begun_task, first_of, halted};
 ghost use Rattle.dn_lane2.specs.Refused.{refusal_of, Refuses};
 ghost use Rattle.dn_lane2.specs.Next.{next_of};
 ghost use Rattle.dn_lane2.specs.Turns.{turn_of, left_of, flowed_of, next_ending, ending_of};
-ghost use Rattle.dn_lane2.specs.Left.{mode_left, is_working};
+ghost use Rattle.dn_lane2.specs.Program.{Follows};
+ghost use Rattle.dn_lane2.specs.Sequence.{call_sequence, task_sequence};
+ghost use Rattle.dn_lane2.specs.Left.{mode_left, is_working, is_sealing};
 ghost use Rattle.dn_lane2.specs.Fit.{SameLane};
+ghost use Rattle.dn_lane2.specs.CallCauses.{CallCause};
+ghost use Rattle.dn_lane2.specs.declared.answers.Answer.{Answer};
+ghost use Rattle.dn_lane2.specs.Footprint.{IsOfLane};
 
 use crate::answers::{Refuse, Turn};
 use crate::asked::Asked;
@@ -103,9 +108,10 @@ impl Lane {
         !matches!(self.mode, Mode::Idle)
     }
 
-    /// How many words wait to flow, at most 140.
+    /// How many words wait to flow, at most 140. None waits but where a record is sealed.
     pub fn staged(&self) -> u32
-        ensures { result ≡ length self.now.base.staging }
+        ensures value { result ≡ length self.now.base.staging }
+        ensures waits { is_sealing self.now.mode ≡ false → result ≡ 0 }
     {
         self.base.staging.len()
     }
@@ -128,7 +134,8 @@ impl Lane {
     /// Begins a call, and takes all memory that it will need: for a copy of the call, for a value that it finds, and for
     /// the places of the records that it seals. The call's session shows itself by `session`; the call's key isn't 0.
     ///
-    /// `Busy` comes exactly where a call or task is under way, `Fenced` where none is and an earlier one read the bit of a
+    /// After `Ok` the lane runs the program of the call to its end, whatever words its actions find. `Busy` comes exactly
+    /// where a call or task is under way, `Fenced` where none is and an earlier one read the bit of a
     /// fence, or another gate than it had loaded, and `OutOfMemory` only where neither is so. After each of them nothing
     /// is changed.
     pub fn begin(&mut self, session: &SessionView, call: &Call) -> Result<(), Refuse>
@@ -136,6 +143,9 @@ impl Lane {
         requires last { session.now.last.stamp < 2 ^ 31 }
         requires hint { session.now.hint ≡ None }
         ensures ok { OnOk result (self.new ≡ begun self.old session.now call.now) }
+        ensures sequence { OnOk result (Follows self.new (call_sequence
+            self.old.base.known.log.pool (reserved self.old.base).known
+            (Asked.Call call.now session.now []))) }
         ensures free { OnOk result (refusal_of self.old ≡ None) }
         ensures cause { IfErr result (Refuses (refusal_of self.old)) }
         ensures same { OnErr result (self.new ≡ self.old) }
@@ -163,10 +173,13 @@ impl Lane {
         Ok(())
     }
 
-    /// Begins a task, and takes all memory that it will need. It is refused as a call is, and then nothing is changed.
+    /// Begins a task, and takes all memory that it will need. After `Ok` the lane runs the program of the task to its end.
+    /// It is refused as a call is, and then nothing is changed.
     pub fn begin_task(&mut self, task: Task) -> Result<(), Refuse>
         requires { FitsTask task }
         ensures ok { OnOk result (self.new ≡ begun_task self.old task) }
+        ensures sequence { OnOk result (Follows self.new (task_sequence
+            self.old.base.known.log.pool (reserved self.old.base).known task)) }
         ensures free { OnOk result (refusal_of self.old ≡ None) }
         ensures cause { IfErr result (Refuses (refusal_of self.old)) }
         ensures same { OnErr result (self.new ≡ self.old) }
@@ -185,9 +198,13 @@ impl Lane {
     }
 
     /// The next action of the plan under way, on a word of the pool: None exactly where no plan is. While words wait to
-    /// flow it is the store of the oldest.
+    /// flow it is the store of the oldest. A lane stores words of its own that wait, and the key of a cell that it claimed;
+    /// it exchanges its own gate, the deed of a slot that it is asked to leave, and cells; it adds 1 to the counter of
+    /// segments and to that of cells; else it loads.
     pub fn next(&self) -> Option<Action>
         ensures value { result ≡ next_of self.now }
+        ensures footprint { IfSome result (IsOfLane self.now.base.known.log.lane
+            self.now.base.staging) }
         ensures within { IfSome result (λ action.
             at_of action < pool_size self.now.base.known.log.pool) }
     {
@@ -205,6 +222,8 @@ impl Lane {
     pub fn take(&mut self, word: u64) -> Turn
         ensures turn { result ≡ turn_of self.old word }
         ensures lane { self.new ≡ left_of self.old word }
+        ensures cause { (answer : Answer) → result ≡ Turn.Done answer
+            → CallCause self.old word answer }
         ensures same { SameLane self.old.base self.new.base }
         ensures falls { is_working self.old.mode ≡ true
             → mode_left self.new.base self.new.mode < mode_left self.old.base self.old.mode }

@@ -1,2 +1,3 @@
 pub mod StagedLemmas
 pub mod SequenceLaws
+pub mod ApartLaws

@@ -23,11 +23,13 @@ use Rattle.dn_services.specs.declared.seals.SealTurn.TheVariants as turn
 
 -- the seal of a put or delete
 abbrev pub call_seal : Call → Sealing → Seal
-call_seal call sealing = record { key = key_of call; words = call_words call; gate = sealing.gate; stamp = sealing.stamp }
+call_seal call sealing =
+    record { key = key_of call; words = call_words call; gate = sealing.gate; stamp = sealing.stamp }
 
 -- and of a task's record: a Share has the stamp of the word with which its cell is opened
 abbrev pub task_seal : ℕ → TendSeal → Seal
-task_seal key (task.Share cell opening gate) = record { key = key; words = 3; gate = gate; stamp = (cell_of opening).stamp }
+task_seal key (task.Share cell opening gate) =
+    record { key = key; words = 3; gate = gate; stamp = (cell_of opening).stamp }
 task_seal key (task.Unshare at stamp gate) = record { key = key; words = 3; gate = gate; stamp = stamp }
 
 -- where the record goes

@@ -57,7 +57,8 @@ abbrev pub claim_next : Claiming → Action
 claim_next c = next_of c.claim
 
 abbrev pub claim_turn : Claiming → ℕ → Turn Claiming RoomEnd
-claim_turn c word = turn_in (claimed_by c.known (turn_of c.claim word)) (turn_by (claim_after c.claim word) (turn_of c.claim word))
+claim_turn c word =
+    turn_in (claimed_by c.known (turn_of c.claim word)) (turn_by (claim_after c.claim word) (turn_of c.claim word))
 
 -- from this turn on, whatever words are found
 pub record Finds (k : KnownState) (words : ℕ) (turn : RoomTurn) : Type 0 where

@@ -1,4 +1,4 @@
-use Rattle.std.specs.Prelude.{ℕ, ◌+◌, ◌++◌, ◌<◌, List, [], ◌∷◌, All, Option, Some, None}
+use Rattle.std.specs.Prelude.{ℕ, ◌≢◌, ◌+◌, ◌++◌, ◌<◌, List, [], ◌∷◌, All, AllPairs, Option, Some, None}
 use Rattle.dn_act.specs.Words.{pool_size}
 use Rattle.dn_word.specs.Regions.{directory_at}
 use Rattle.dn_record.specs.Record.{spelling}
@@ -27,7 +27,8 @@ pad_staged log (Some pad) = placed log pad.0 (spelling (Pad pad.1))
 
 -- by a plan: the directory word, the pad, the record
 abbrev pub staged_by : Log → Plan → List ℕ → List Staged
-staged_by log plan words = directory_staged log (new_segment_of log plan) ++ (pad_staged log plan.pad ++ placed log plan.at words)
+staged_by log plan words =
+    directory_staged log (new_segment_of log plan) ++ (pad_staged log plan.pad ++ placed log plan.at words)
 
 -- of a record of so many words, spelled by these
 abbrev pub staged_of : Log → ℕ → List ℕ → List Staged
@@ -36,3 +37,7 @@ staged_of log count words = staged_by log (plan_of log count) words
 -- they go to words of a pool of so many segments
 abbrev pub AreWithin : ℕ → List Staged → Type 0
 AreWithin pool staged = All (λ (s : Staged). s.at < pool_size pool) staged
+
+-- no two of them go to the same word, so that the pool is the same in whatever order they flow
+abbrev pub GoApart : List Staged → Type 0
+GoApart staged = AllPairs (λ (a b : Staged). a.at ≢ b.at) staged

@@ -20,8 +20,8 @@ pub enum RoomTurn {
     Told { room: Room },
 }
 
-/// Looks for room for a record of 1 to 1,024 words: at once where the lane's segments or its spare reach, and else by the
-/// claim of a segment, unless the lane has 256.
+/// Looks for room for a record of 1 to 1,024 words: at once where the lane's segments or its spare reach, and else by
+/// the claim of a segment, unless the lane has 256.
 pub fn find_room(known: &Known, words: u16) -> RoomTurn
     requires least { 1 ≤ words }
     requires most { words ≤ 1024 }
@@ -30,7 +30,8 @@ pub fn find_room(known: &Known, words: u16) -> RoomTurn
     ensures found { (result ≡ RoomTurn.Told Room.Found)
         ↔ ((plan_of known.now.log words).need_segment ≡ false) }
     ensures full { (counter segments : ℕ) →
-        (result ≡ RoomTurn.Told (Room.Full counter segments)) ↔ HasAll known.now words counter segments }
+        (result ≡ RoomTurn.Told (Room.Full counter segments))
+        ↔ HasAll known.now words counter segments }
     ensures left { actions_left result ≤ 2 }
     ensures sequence { Finds known.now words result }
 {

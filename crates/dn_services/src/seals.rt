@@ -8,8 +8,8 @@ ghost use Rattle.dn_hist.specs.Calls.{key_of};
 ghost use Rattle.dn_record.specs.Record.{spelling};
 ghost use Rattle.dn_services.specs.Spelled.{IsWrite, call_spelling, call_words, task_record};
 ghost use Rattle.dn_tend.specs.Fit.{FitsRecord};
-ghost use Rattle.dn_log.specs.Log.{plan_of};
-ghost use Rattle.dn_services.specs.Staged.{staged_of, AreWithin};
+ghost use Rattle.dn_log.specs.Log.{plan_of, reach_of, IsApart};
+ghost use Rattle.dn_services.specs.Staged.{staged_of, AreWithin, GoApart};
 ghost use Rattle.dn_services.specs.Sealing.{place_in, next_of, turn_of, known_after, waits_after, call_seal, task_seal, IsReady, IsSealing};
 
 use crate::spelled::{MAX_WORDS, TASK_WORDS, call_words, key_of, spell_call, spell_task};
@@ -26,7 +26,7 @@ use dn_word::{Cell, Gate, Ref};
 /// A record that is being sealed: its words flow to the pool, and then the gate is exchanged.
 #[derive(Clone, Copy)]
 pub struct Seal {
-    /// The key of which the record says who decides.
+    /// The key whose value the record says where to find.
     pub key: u64,
     /// How many words the record has.
     pub words: u16,
@@ -58,6 +58,7 @@ fn stage_call(log: &LogWriter, staging: &mut Staging, call: &Call)
         ≡ staged_of log.now (call_words call.now) (call_spelling call.now) }
     ensures within { AreWithin log.now.pool staging.new }
     ensures count { length staging.new ≤ 132 }
+    ensures apart { IsApart (reach_of log.now) → GoApart staging.new }
 {
     let mut words = [0u64; MAX_WORDS];
     let count = spell_call(call, &mut words);
@@ -65,7 +66,8 @@ fn stage_call(log: &LogWriter, staging: &mut Staging, call: &Call)
 }
 
 impl Seal {
-    /// Begins to seal the record of a put or delete. Its words wait from then on.
+    /// Begins to seal the record of a put or delete. What is written for it waits from then on, and goes to different
+    /// words of the pool where the lane's segments do.
     pub fn of_call(known: &Known, staging: &mut Staging, call: &Call, sealing: &Sealing) -> Seal
         requires write { IsWrite call.now }
         requires stamp { sealing.now.stamp < 2 ^ 31 }
@@ -76,6 +78,7 @@ impl Seal {
             ≡ staged_of known.now.log (call_words call.now) (call_spelling call.now) }
         ensures fits { IsSealing known.now result staging.new }
         ensures left { length staging.new ≤ 132 }
+        ensures apart { IsApart (reach_of known.now.log) → GoApart staging.new }
     {
         let words = call_words(call);
         stage_call(known.log(), staging, call);
@@ -87,7 +90,7 @@ impl Seal {
         }
     }
 
-    /// Begins to seal the record of a task for its key. Its words wait from then on.
+    /// Begins to seal the record of a task for its key. What is written for it waits from then on, as for a call's.
     pub fn of_task(known: &Known, staging: &mut Staging, key: u64, seal: TendSeal) -> Seal
         requires task { FitsRecord seal }
         requires ready { IsReady known.now 3 }
@@ -96,6 +99,7 @@ impl Seal {
         ensures waits { staging.new ≡ staged_of known.now.log 3 (spelling (task_record key seal)) }
         ensures fits { IsSealing known.now result staging.new }
         ensures left { length staging.new ≤ 132 }
+        ensures apart { IsApart (reach_of known.now.log) → GoApart staging.new }
     {
         let words = spell_task(key, seal);
         stage(known.log(), staging, &words);

@@ -1,8 +1,9 @@
 //! The words of a record, staged on their way to the pool.
 
-ghost use Rattle.std.specs.Prelude.{◌≡◌, ◌<◌, ◌≤◌, ◌+◌, ◌*◌, ◌^◌, ◌++◌, [], false, length, ℕ};
-ghost use Rattle.dn_log.specs.Log.{plan_of, reach_of, new_segment_of, IsPlan};
-ghost use Rattle.dn_services.specs.Staged.{placed, directory_staged, pad_staged, staged_of, AreWithin};
+ghost use Rattle.std.specs.Prelude.{◌≡◌, ◌<◌, ◌≤◌, ◌+◌, ◌*◌, ◌^◌, ◌++◌, [], false, length, ℕ, All};
+ghost use Rattle.dn_log.specs.declared.staging.Staged.{Staged};
+ghost use Rattle.dn_log.specs.Log.{plan_of, reach_of, new_segment_of, IsPlan, IsApart};
+ghost use Rattle.dn_services.specs.Staged.{placed, directory_staged, pad_staged, staged_of, AreWithin, GoApart};
 
 use dn_log::{LogWriter, Plan, Staging};
 use dn_record::Head;
@@ -31,6 +32,8 @@ fn stage_directory(log: &LogWriter, staging: &mut Staging, plan: &Plan)
         ++ directory_staged log.now (new_segment_of log.now plan.now) }
     ensures within { AreWithin log.now.pool staging.new }
     ensures count { length staging.new ≤ length staging.old + 1 }
+    ensures before { All (λ (s : Staged). s.at < 98304)
+        (directory_staged log.now (new_segment_of log.now plan.now)) }
 {
     if let Some(new) = log.new_segment(plan) {
         staging.put(
@@ -66,6 +69,7 @@ pub fn stage(log: &LogWriter, staging: &mut Staging, words: &[u64])
     ensures value { staging.new ≡ staged_of log.now (length words.now) words.now }
     ensures within { AreWithin log.now.pool staging.new }
     ensures count { length staging.new ≤ 132 }
+    ensures apart { IsApart (reach_of log.now) → GoApart staging.new }
 {
     let plan = log.plan(words.len() as u16);
     stage_directory(log, staging, &plan);
