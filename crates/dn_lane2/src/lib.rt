@@ -16,3 +16,6 @@ mod steps;
 
 pub use answers::{Answer, Refuse, Turn};
 pub use lanes::Lane;
+
+#[cfg(test)]
+mod tests;
