@@ -1,9 +1,11 @@
-//! Measures what an action of the key node costs, over a pool in the process that is only its own.
+//! Measures what an action of the next key node costs.
 //!
-//! With the word `small` or `large` one lane makes puts of 8 or of 1,024 bytes over 100 keys, and with `gets` puts of 8
-//! bytes and gets; each call is carried out action by action until the log is full, and then a fresh lane begins over a
-//! fresh pool, until 3,000,000 actions are done. With `sample` each of the three is played for one round in a pool of 16
-//! segments. The sums of what was done and found are printed.
+//! With the word `small` or `large` a lane makes puts of 8 or of 1,024 bytes over 100 keys, and with `gets` puts of 8
+//! bytes and gets. Each call is carried out action by action over a memory in the process. When the log is full a fresh
+//! lane begins over a fresh memory, so often that more than 3,000,000 actions are done. No merger runs, so each key that
+//! was put has a pending record. With `sample` each of the three is played for one round in a pool of 16 segments.
+//!
+//! What is printed are counts and sums of what was done and found, so that no work can be left out.
 #![tactic(auto)]
 
 mod loads;

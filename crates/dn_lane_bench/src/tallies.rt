@@ -7,15 +7,15 @@ use dn_word::fnv1a;
 /// Counts of what was played, and sums of what was found.
 #[derive(Clone, Copy)]
 pub struct Tally {
-    /// Calls that were made.
+    /// Calls that were made. The one that finds a log full isn't among them.
     pub calls: u64,
     /// Of them those whose key had a pending record.
     pub pending: u64,
-    /// Actions on a word of a pool.
+    /// Actions on a word of a pool, of all calls.
     pub actions: u64,
     /// The stamp of the last position.
     pub stamp: u32,
-    /// The words that the actions found, in their order, and the bytes of the values that were read.
+    /// A sum over the words that the actions found and the values that were read, in their order.
     pub sum: u64,
 }
 
