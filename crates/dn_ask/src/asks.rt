@@ -1,7 +1,5 @@
 use dn_plan::{ActPhase, Effect, Ending, LocatePhase, RoomPhase, SealPhase, Sealing, Way};
-use dn_tend::{
-    TaskAnswer, TendAct, TendFound, TendLocate, TendRoom, TendSeal, TendSealing,
-};
+use dn_tend::{TaskAnswer, TendAct, TendFound, TendLocate, TendRoom, TendSeal, TendSealing};
 
 /// An action of the plan's own, for whose word it waits.
 #[derive(Clone, Copy)]

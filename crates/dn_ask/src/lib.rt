@@ -10,4 +10,3 @@ mod steps;
 mod tasks;
 
 pub use asks::{Act, After, End, FindRoom, Here, Locate, Next, Seal, Sealed, Step, Then};
-

@@ -136,8 +136,8 @@ fn fenced_get(rt: &impl Abort, node: &mut Node) {
     refused(rt, node, Refuse::Fenced { word });
 }
 
-/// The gate is fenced while the record of a delete flows, and that of a share.
-fn fenced_seals(rt: &impl Abort, node: &mut Node) {
+/// The gate is fenced after a delete has loaded it.
+fn fenced_delete(rt: &impl Abort, node: &mut Node) {
     node.delete(rt, 5);
     node.loads(rt, &[195, 34545, 34546, 34547, 34551, 65]);
     node.claims(rt, 1);
@@ -148,6 +148,7 @@ fn fenced_seals(rt: &impl Abort, node: &mut Node) {
     refused(rt, node, Refuse::Fenced { word });
 }
 
+/// The gate is fenced after a share has loaded it.
 fn fenced_share(rt: &impl Abort, node: &mut Node) {
     node.task(rt, Task::Share { key: 5 });
     node.loads(rt, &[195, 34545, 34546, 34547, 34551, 65]);
@@ -166,7 +167,7 @@ fn what_changes_while_a_plan_is_under_way(rt: HostRuntime) -> Result<(), Fail> {
     fenced_get(&rt, &mut node);
     let pool = Sound::new(rt.alloc(), 2)?;
     let mut node = Node::new(&rt, pool, Lane::new(rt.alloc(), 1, 2)?);
-    fenced_seals(&rt, &mut node);
+    fenced_delete(&rt, &mut node);
     node.lane = Lane::new(rt.alloc(), 1, 2)?;
     node.write(&rt, 65, 0);
     fenced_share(&rt, &mut node);
