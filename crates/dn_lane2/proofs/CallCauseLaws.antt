@@ -80,7 +80,7 @@ use Rattle.dn_lane2.specs.declared.modes.Mode.TheVariants as mode
 
 -- Each answer of a call comes by its cause.
 
-abbrev lane_of : Base → Asked → Mode → LaneState
+abbrev pub lane_of : Base → Asked → Mode → LaneState
 lane_of g a m = record { base = g; asked = a; mode = m }
 
 abbrev answer_in : Answer → Turn → Answer
@@ -92,7 +92,7 @@ answer_in d (Tended answer) = d
 due : (l : LaneState) (word : ℕ) (given answer : Answer) → Done given ≡ Done answer → CallCause l word given → CallCause l word answer
 due l word given answer e h = subst (λ x. CallCause l word x) (ap (answer_in given) e) h
 
-not_more : (answer : Answer) → More ≡ Done answer → ⊥
+pub not_more : (answer : Answer) → More ≡ Done answer → ⊥
 not_more answer e = cc
 
 -- ---- a task gives no answer of a call
@@ -148,11 +148,11 @@ not_below : (pool most word : ℕ) → most ≡ pool → nat_lt word most ≡ fa
 not_below pool most word same t = grind (arith, nat_tests, same, t)
 
 -- ---- a call
-abbrev call_of : Call → SessionView → List ℕ → Asked
+abbrev pub call_of : Call → SessionView → List ℕ → Asked
 call_of call view room = asked.Call call view room
 
 -- what is answered by a step of the plan
-abbrev told : Base → Asked → CallStep → Turn
+abbrev pub told : Base → Asked → CallStep → Turn
 told g a step = turn_going a (entered g a (call_step step)).going
 
 look_by : (g : Base) (call : Call) (view : SessionView) (kept : List ℕ) (word : ℕ) (answer : Answer) (b : Bool) → let a = call_of call view kept in
@@ -297,7 +297,7 @@ claims_by g (asked.Call call view kept) (find.Call (room_phase.Write r)) (claim.
 
 -- ---- the seal
 -- a step is taken after the exchange, whatever it found
-stepped_by : (g : Base) (a : Asked) (wait : SealWait) (s : Seal) (place : Ref) (word : ℕ) (answer : Answer) (b : Bool)
+pub stepped_by : (g : Base) (a : Asked) (wait : SealWait) (s : Seal) (place : Ref) (word : ℕ) (answer : Answer) (b : Bool)
     → turn_going a (sealed_by g a wait s word (if b then turn.Sealed place else turn.Shut place)).going ≡ Done answer
     → turn_going a (entered g a (sealed_in place word wait)).going ≡ Done answer
 stepped_by g a wait s place word answer true e = e
@@ -335,7 +335,7 @@ task_sealed : (g : Base) (a : Asked) (p : TendSealing) (word : ℕ) (answer : An
 task_sealed g a p word answer true e = next_never g a (task_seal_next p) answer e
 task_sealed g a p word answer false e = cc
 
-task_waits : (k : KnownState) (f : Fetching) (waits : List Staged) (a : Asked) (p : TendSealing) (s : Seal) (word : ℕ) (answer : Answer)
+pub task_waits : (k : KnownState) (f : Fetching) (waits : List Staged) (a : Asked) (p : TendSealing) (s : Seal) (word : ℕ) (answer : Answer)
     → turn_of (lane_of (record { known = k; staging = waits; fetch = f }) a (mode.Sealing (seal.Task p) s)) word ≡ Done answer → ⊥
 task_waits k f (w ∷ ws) a p s word answer e = not_more answer e
 task_waits k f [] a p s word answer e =

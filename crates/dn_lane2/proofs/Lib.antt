@@ -7,3 +7,5 @@ pub mod TaskRuns
 pub mod BeginLaws
 pub mod FootprintLaws
 pub mod CallCauseLaws
+pub mod EndingLaws
+pub mod TaskCauseLaws

@@ -1,4 +1,4 @@
-use Rattle.std.proofs.Common.{◌≡◌, ℕ, ◌*◌, ◌==◌, List, [], ◌∷◌, Bool, true, false, Option, Some, None, nat_lt, length, if◌then◌else◌, refl, subst, ◌∙◌}
+use Rattle.std.proofs.Common.{◌≡◌, ℕ, ◌*◌, ◌==◌, List, [], ◌∷◌, Bool, true, false, Option, Some, None, nat_lt, length, if◌then◌else◌, refl, ap, subst, ◌∙◌}
 use Rattle.dn_hist.specs.declared.calls.Call.{Call}
 use Rattle.dn_hist.specs.declared.calls.Call.TheVariants.{Get, Put, Delete}
 use Rattle.dn_log.specs.Log.{Log, plan_of, reach_of}
@@ -10,13 +10,18 @@ use Rattle.dn_plan.specs.Fit.{IsWrite as IsWriteKind}
 use Rattle.dn_plan.specs.declared.phases.Room.{Room}
 use Rattle.dn_plan.specs.declared.phases.Room.TheVariants.{Found}
 use Rattle.dn_plan.specs.declared.phases.RoomPhase.TheVariants as phase
+use Rattle.dn_tend.specs.declared.tasks.TendSeal.{TendSeal}
+use Rattle.dn_tend.specs.declared.tasks.TendSeal.TheVariants as tend
+use Rattle.dn_ask.specs.Ask.{task_gate}
 use Rattle.dn_ask.specs.Fit.{FitsRoom}
 use Rattle.dn_ask.specs.declared.asks.FindRoom.{FindRoom}
+use Rattle.dn_ask.specs.declared.asks.Sealed.{Sealed}
+use Rattle.dn_ask.specs.declared.asks.Sealed.TheVariants as sealed
 use Rattle.dn_ask.specs.declared.asks.FindRoom.TheVariants as find
 use Rattle.dn_known.specs.Sealed.{sealed_by}
 use Rattle.dn_known.specs.State.{KnownState}
 use Rattle.dn_services.specs.Room.{claimed_by, FitsTurn}
-use Rattle.dn_services.specs.Sealing.{known_after, plan_in}
+use Rattle.dn_services.specs.Sealing.{task_seal, known_after, plan_in}
 use Rattle.dn_services.specs.Spelled.{IsWrite}
 use Rattle.dn_services.specs.declared.rooms.RoomTurn.TheVariants.{Told}
 use Rattle.dn_services.specs.declared.seals.Seal.{Seal}
@@ -25,6 +30,7 @@ use Rattle.dn_lane2.specs.declared.asked.Asked.{Asked}
 use Rattle.dn_lane2.specs.declared.asked.Asked.TheVariants as asked
 use Rattle.dn_lane2.specs.declared.base.Base.{Base}
 use Rattle.dn_lane2.specs.Fit.{SameLane}
+use Rattle.dn_lane2.specs.Taken.{sealing_by}
 
 -- ---- who looks for room seals a record
 writes : (call : Call) → IsWriteKind (kind_of call) → IsWrite call
@@ -41,6 +47,23 @@ may_seal lane (asked.Call call view room) (find.Task wait) f h = absurd (f.0 h.0
 -- the room that was found reaches for the record
 pub room_told : (log : Log) (words : ℕ) (room : Room) → FitsTurn log words (Told room) → room ≡ Found → (plan_of log words).need_segment ≡ false
 room_told log words room fits found = subst (λ r. FitsTurn log words (Told r)) found fits
+
+-- ---- a task's record is sealed from the gate that the task loaded
+pub task_seal_gate : (key : ℕ) (s : TendSeal) → (task_seal key s).gate ≡ task_gate s
+task_seal_gate key (tend.Share cell opening gate) = refl
+task_seal_gate key (tend.Unshare place stamp gate) = refl
+
+-- and each record from the gate that its plan loaded
+abbrev pub gate_in : Sealed → ℕ
+gate_in (sealed.Call sealing) = sealing.gate
+gate_in (sealed.Task key s) = task_gate s
+
+seal_gate_of : (a : Asked) (s : Sealed) → (sealing_by a s).gate ≡ gate_in s
+seal_gate_of a (sealed.Call sealing) = refl
+seal_gate_of a (sealed.Task key s) = task_seal_gate key s
+
+pub seal_gate : (a : Asked) (s : Seal) (of : Sealed) → s ≡ sealing_by a of → s.gate ≡ gate_in of
+seal_gate a s of same = ap (λ (x : Seal). x.gate) same ∙ seal_gate_of a of
 
 -- ---- a lane keeps its number and its pool
 pub claimed_lane : (k : KnownState) (t : ClaimTurn) → (claimed_by k t).log.lane ≡ k.log.lane

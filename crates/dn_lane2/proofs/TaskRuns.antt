@@ -18,7 +18,6 @@ use Rattle.dn_tend.specs.declared.tasks.TaskAnswer.TheVariants.{Fenced}
 use Rattle.dn_tend.specs.declared.tasks.TendFound.{TendFound}
 use Rattle.dn_tend.specs.declared.tasks.TendFound.TheVariants as no_value
 use Rattle.dn_tend.specs.declared.tasks.TendSeal.{TendSeal}
-use Rattle.dn_tend.specs.declared.tasks.TendSeal.TheVariants as sealing
 use Rattle.dn_tend.specs.declared.tasks.TendStep.TheVariants as step
 use Rattle.dn_tend.specs.declared.phases.TendAct.{TendAct}
 use Rattle.dn_tend.specs.declared.phases.TendLocate.{TendLocate}
@@ -56,7 +55,7 @@ use Rattle.dn_lane2.specs.declared.asked.Asked.TheVariants as asked
 use Rattle.dn_lane2.specs.declared.base.Base.{Base}
 use Rattle.dn_lane2.proofs.CallRuns.{learnt_lane, begun, started_pool}
 use Rattle.dn_lane2.proofs.ServiceRuns.{at, by, finds, rooms, seals}
-use Rattle.dn_lane2.proofs.StepLemmas.{sealed_by_lane}
+use Rattle.dn_lane2.proofs.StepLemmas.{task_seal_gate, sealed_by_lane}
 use Rattle.dn_lane2.proofs.TaskKeys.{KeyNext, taken_keys, located_keys, roomed_keys, sealed_keys}
 
 -- A lane that follows the plan of a task runs the task's program.
@@ -119,11 +118,6 @@ seal_wait_of lane (next.After (after.Then (thence.Done a))) seal e = absurd cc
 -- what a lane that has a task comes to where the task has told it this, and waits for that
 abbrev came : Base → Option Effect → TendNext → Answered
 came g effect w = by asked.Task (entered g asked.Task (task_step (record { effect = effect; next = w })))
-
--- the gate from which a task's exchange begins
-gate_same : (key : ℕ) (s : TendSeal) → (task_seal key s).gate ≡ task_gate s
-gate_same key (sealing.Share cell opening gate) = refl
-gate_same key (sealing.Unshare place stamp gate) = refl
 
 -- the exchange was done, or the gate is closed to the lane
 abbrev with_seal : Base → SealOf → Base
@@ -243,7 +237,7 @@ tasks (Seal sealed behind) g key effect w segments empty pool keys (e, s, h) =
     else End (turn_by asked.Task (end.Task (Fenced word))) (learnt g.known (Bar word)))
     (λ word.
     sealed_run g (task_seal (task_record_key a.phase) (seal_in a.phase)) a.phase word (task_gate (seal_in a.phase))
-    (λ k. task_program segments key k behind) (gate_same (task_record_key a.phase) (seal_in a.phase))
+    (λ k. task_program segments key k behind) (task_seal_gate (task_record_key a.phase) (seal_in a.phase))
     (tasks behind (with_seal g (task_seal (task_record_key a.phase) (seal_in a.phase))) key None (sealed_in a.phase) segments refl pool
     (sealed_keys key a.phase owned)
     (subst (λ n. Follows behind None (tending n (sealed_in a.phase)))

@@ -11,5 +11,6 @@ pub mod Refused
 pub mod Inside
 pub mod Program
 pub mod Sequence
+pub mod TaskCauses
 pub mod Footprint
 pub mod CallCauses

@@ -1,10 +1,11 @@
-ghost use Rattle.std.specs.Prelude.{◌≡◌, ◌≢◌, ◌<◌, ◌≤◌, ◌^◌, [], None, true, false, length, IfOk, OnOk, OnErr, IfErr, IfSome};
+ghost use Rattle.std.specs.Prelude.{◌≡◌, ◌≢◌, ◌<◌, ◌≤◌, ◌^◌, [], Some, None, true, false, length, IfOk, OnOk, OnErr, IfErr, IfSome};
 ghost use Rattle.dn_word.specs.Regions.{IsLane};
 ghost use Rattle.dn_act.specs.Action.{at_of};
 ghost use Rattle.dn_act.specs.Words.{pool_size};
 ghost use Rattle.dn_hist.specs.Calls.{key_of};
 ghost use Rattle.dn_log.specs.Staged.{flow_of};
 ghost use Rattle.dn_tend.specs.Fit.{FitsTask};
+ghost use Rattle.dn_tend.specs.declared.tasks.TaskAnswer.{TaskAnswer};
 ghost use Rattle.dn_lane2.specs.State.{LaneState, fresh, reserved, begun, begun_task, first_of, halted};
 ghost use Rattle.dn_lane2.specs.Refused.{refusal_of, Refuses};
 ghost use Rattle.dn_lane2.specs.Next.{next_of};
@@ -14,8 +15,11 @@ ghost use Rattle.dn_lane2.specs.Sequence.{call_sequence, task_sequence};
 ghost use Rattle.dn_lane2.specs.Left.{mode_left, is_working, is_sealing};
 ghost use Rattle.dn_lane2.specs.Fit.{SameLane};
 ghost use Rattle.dn_lane2.specs.CallCauses.{CallCause};
+ghost use Rattle.dn_hist.specs.declared.receipts.Receipt.{Receipt};
+ghost use Rattle.dn_plan.specs.declared.phases.Way.{Way};
 ghost use Rattle.dn_lane2.specs.declared.answers.Answer.{Answer};
 ghost use Rattle.dn_lane2.specs.Footprint.{IsOfLane};
+ghost use Rattle.dn_lane2.specs.TaskCauses.{TaskCause};
 
 use crate::answers::{Refuse, Turn};
 use crate::asked::Asked;
@@ -133,6 +137,7 @@ impl Lane {
 
     /// Begins a call, and takes all memory that it will need: for a copy of the call, for a value that it finds, and for
     /// the places of the records that it seals. The call's session shows itself by `session`; the call's key isn't 0.
+    /// Calls on a key that lanes share aren't served yet: such a key is taken for one without a value.
     ///
     /// After `Ok` the lane runs the program of the call to its end, whatever words its actions find. `Busy` comes exactly
     /// where a call or task is under way, `Fenced` where none is and an earlier one read the bit of a
@@ -217,13 +222,18 @@ impl Lane {
         }
     }
 
-    /// Takes the word that the action of `next` found, and goes on or ends the plan. It takes no memory. Each word that
-    /// ends no plan lowers the bound on the actions that are left, so that a plan ends.
+    /// Takes the word that the action of `next` found, and goes on or ends the plan. It takes no memory. Each answer comes
+    /// after the action, and by the word, that is its cause. Each word that ends no plan lowers the bound on the actions
+    /// that are left, so that a plan ends.
     pub fn take(&mut self, word: u64) -> Turn
         ensures turn { result ≡ turn_of self.old word }
         ensures lane { self.new ≡ left_of self.old word }
         ensures cause { (answer : Answer) → result ≡ Turn.Done answer
             → CallCause self.old word answer }
+        ensures task_cause { (answer : TaskAnswer) → result ≡ Turn.Tended answer
+            → TaskCause self.old word answer }
+        ensures ending { (receipt : Receipt) (way : Way) → is_sealing self.old.mode ≡ true
+            → result ≡ Turn.Done (Answer.Made receipt way) → ending_of self.old ≡ Some receipt }
         ensures same { SameLane self.old.base self.new.base }
         ensures falls { is_working self.old.mode ≡ true
             → mode_left self.new.base self.new.mode < mode_left self.old.base self.old.mode }
