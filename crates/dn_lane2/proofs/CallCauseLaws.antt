@@ -15,6 +15,7 @@ use Rattle.dn_log.specs.declared.claims.Claim.TheVariants as claim
 use Rattle.dn_log.specs.declared.claims.ClaimTurn.TheVariants as told_as
 use Rattle.dn_known.specs.State.{KnownState}
 use Rattle.dn_log.specs.declared.staging.Staged.{Staged}
+use Rattle.dn_plan.specs.Causes.{HasToRaise}
 use Rattle.dn_plan.specs.Fit.{FitsRaised}
 use Rattle.dn_plan.specs.Plan.{is_owner, need_of, looked, barred, goes, ends as call_ends, opened, reads, raises, writes, raised_at, sealing_of}
 use Rattle.dn_plan.specs.declared.phases.Brief.{Brief}
@@ -62,7 +63,7 @@ use Rattle.dn_services.specs.Sealing.{call_seal, known_after, place_in}
 use Rattle.dn_services.specs.declared.seals.Seal.{Seal}
 use Rattle.dn_services.specs.declared.seals.SealTurn.TheVariants as turn
 use Rattle.dn_lane2.specs.Asked.{brief_of, kind_of, words_in}
-use Rattle.dn_lane2.specs.CallCauses.{Counts, Exchanges, IsRaised, CallCause}
+use Rattle.dn_lane2.specs.CallCauses.{Counts, Exchanges, WaitsForExchange, IsRaised, CallCause}
 use Rattle.dn_lane2.specs.Fit.{FitsMode}
 use Rattle.dn_lane2.specs.State.{LaneState}
 use Rattle.dn_lane2.specs.Taken.{Arrived, learnt_by, entered, entered_then, entered_next, entered_after, roomed_by, sought_by, arrived_at, here_of, sealing_by, sealed_by}
@@ -163,13 +164,14 @@ look_by g call view kept word answer true t e = absurd (not_more answer e)
 look_by g call view kept word answer false t e = due _ word (NotOwner word None) answer e (refl, refl, t, refl)
 
 raise_by : (g : Base) (call : Call) (view : SessionView) (kept : List ℕ) (look : ℕ) (found : Located) (word : ℕ) (answer : Answer) (r : Option Position) → let a = call_of call view kept in
-    is_owner g.known.log.lane look ≡ true → (gate_of word).fenced ≡ false
+    HasToRaise (brief_of g.known.log.lane a) look (gate_of word).stamp (kind_of call) → (gate_of word).fenced ≡ false
     → raised_of (need_of (brief_of g.known.log.lane a) look) (gate_of word).stamp ≡ r
     → told g a (goes (cnext.After (raises look found word r))) ≡ Done answer
     → CallCause (lane_of g a (mode.Acting (act.Call (phase.Gate look found)))) word answer
-raise_by g call view kept look found word answer (Some to) owner free rule e = absurd (not_more answer e)
-raise_by g call view kept look found word answer None owner free rule e =
-    due _ word (Worn (2 ^ 31 - 1)) answer e (record { loads = (refl, free); last = refl; look = look; owner = owner; none = rule })
+raise_by g call view kept look found word answer (Some to) needed free rule e = absurd (not_more answer e)
+raise_by g call view kept look found word answer None needed free rule e =
+    due _ word (Worn (2 ^ 31 - 1)) answer e
+    (record { look = look; found = found; waits = refl; loads = (refl, free); raise = needed; last = refl; none = rule })
 
 read_by : (g : Base) (key : ℕ) (view : SessionView) (kept : List ℕ) (look : ℕ) (found : Located) (word : ℕ) (answer : Answer) (q : Option Position) → let a = call_of (Get key) view kept in
     is_owner g.known.log.lane look ≡ true → (gate_of word).fenced ≡ false
@@ -178,37 +180,50 @@ read_by : (g : Base) (key : ℕ) (view : SessionView) (kept : List ℕ) (look : 
     → CallCause (lane_of g a (mode.Acting (act.Call (phase.Gate look found)))) word answer
 read_by g key view kept look found word answer (Some to) owner free rule e =
     due _ word (Made (receipt_of (Get key) view kept to None found.held) found.way) answer e
-    (inl (record { loads = (refl, free); look = look; owner = owner; rule = rule }))
+    (inl (record {
+      look = look;
+      found = found;
+      waits = refl;
+      loads = (refl, free);
+      get = refl;
+      owner = owner;
+      rule = rule;
+      where_from = refl;
+      its = record { call = refl; number = refl };
+    }))
 read_by g key view kept look found word answer None owner free rule e =
     raise_by g (Get key) view kept look found word answer (raised_of (need_of (brief_of g.known.log.lane (call_of (Get key) view kept)) look) (gate_of word).stamp)
-    owner free refl e
+    rule free refl e
 
 -- a put or delete needs room
 all_by : (g : Base) (call : Call) (view : SessionView) (kept : List ℕ) (look : ℕ) (found : Located) (r : Raised) (word : ℕ) (answer : Answer) (b : Bool) → let a = call_of call view kept in
-    (gate_of word).fenced ≡ false → (length g.known.log.segments == 256) ≡ b
+    (gate_of word).fenced ≡ false → (plan_of g.known.log (words_in a)).need_segment ≡ true → (length g.known.log.segments == 256) ≡ b
     → turn_going a (roomed_by g a (find.Call (room_phase.Write r)) (if b then room.Told (NoRoom 0 256) else room.More (claim.Reading g.known.log.pool (length g.known.log.segments)))).going ≡ Done answer
     → CallCause (lane_of g a (mode.Acting (act.Call (phase.Gate look found)))) word answer
-all_by g call view kept look found r word answer true free t e =
-    due _ word (Full 0 256) answer e (inl (record { loads = (refl, free); told = refl; all = eq_true (length g.known.log.segments) 256 t; has = refl }))
-all_by g call view kept look found r word answer false free t e = absurd (not_more answer e)
+all_by g call view kept look found r word answer true free needs t e =
+    due _ word (Full 0 256) answer e
+    (inl ((refl, free), record { needs = needs; all = eq_true (length g.known.log.segments) 256 t; none_read = refl; told = refl }))
+all_by g call view kept look found r word answer false free needs t e = absurd (not_more answer e)
 
 room_by : (g : Base) (call : Call) (view : SessionView) (kept : List ℕ) (look : ℕ) (found : Located) (r : Raised) (word : ℕ) (answer : Answer) (b : Bool) → let a = call_of call view kept in
-    (gate_of word).fenced ≡ false
+    (gate_of word).fenced ≡ false → (plan_of g.known.log (words_in a)).need_segment ≡ b
     → turn_going a (roomed_by g a (find.Call (room_phase.Write r)) (if b then (if length g.known.log.segments == 256 then room.Told (NoRoom 0 256)
     else room.More (claim.Reading g.known.log.pool (length g.known.log.segments))) else room.Told Found)).going ≡ Done answer
     → CallCause (lane_of g a (mode.Acting (act.Call (phase.Gate look found)))) word answer
-room_by g call view kept look found r word answer true free e = all_by g call view kept look found r word answer (length g.known.log.segments == 256) free refl e
-room_by g call view kept look found r word answer false free e = absurd (not_more answer e)
+room_by g call view kept look found r word answer true free needs e =
+    all_by g call view kept look found r word answer (length g.known.log.segments == 256) free needs refl e
+room_by g call view kept look found r word answer false free needs e = absurd (not_more answer e)
 
 write_by : (g : Base) (call : Call) (view : SessionView) (kept : List ℕ) (look : ℕ) (found : Located) (word : ℕ) (answer : Answer) (r : Option Position) → let a = call_of call view kept in
-    is_owner g.known.log.lane look ≡ true → (gate_of word).fenced ≡ false
+    HasToRaise (brief_of g.known.log.lane a) look (gate_of word).stamp (kind_of call) → (gate_of word).fenced ≡ false
     → raised_of (need_of (brief_of g.known.log.lane a) look) (gate_of word).stamp ≡ r
     → told g a (goes (cnext.After (writes look found word r))) ≡ Done answer
     → CallCause (lane_of g a (mode.Acting (act.Call (phase.Gate look found)))) word answer
-write_by g call view kept look found word answer (Some to) owner free rule e =
-    room_by g call view kept look found (raised_at look found word to) word answer (plan_of g.known.log (words_in (call_of call view kept))).need_segment free e
-write_by g call view kept look found word answer None owner free rule e =
-    due _ word (Worn (2 ^ 31 - 1)) answer e (record { loads = (refl, free); last = refl; look = look; owner = owner; none = rule })
+write_by g call view kept look found word answer (Some to) needed free rule e =
+    room_by g call view kept look found (raised_at look found word to) word answer (plan_of g.known.log (words_in (call_of call view kept))).need_segment free refl e
+write_by g call view kept look found word answer None needed free rule e =
+    due _ word (Worn (2 ^ 31 - 1)) answer e
+    (record { look = look; found = found; waits = refl; loads = (refl, free); raise = needed; last = refl; none = rule })
 
 open_by : (g : Base) (call : Call) (view : SessionView) (kept : List ℕ) (look : ℕ) (found : Located) (word : ℕ) (answer : Answer) → let a = call_of call view kept in
     is_owner g.known.log.lane look ≡ true → (gate_of word).fenced ≡ false
@@ -218,10 +233,10 @@ open_by g (Get key) view kept look found word answer owner free e =
     read_by g key view kept look found word answer (quiet_of (need_of (brief_of g.known.log.lane (call_of (Get key) view kept)) look) (gate_of word).stamp) owner free refl e
 open_by g (Put key value) view kept look found word answer owner free e =
     write_by g (Put key value) view kept look found word answer
-    (raised_of (need_of (brief_of g.known.log.lane (call_of (Put key value) view kept)) look) (gate_of word).stamp) owner free refl e
+    (raised_of (need_of (brief_of g.known.log.lane (call_of (Put key value) view kept)) look) (gate_of word).stamp) tt free refl e
 open_by g (Delete key) view kept look found word answer owner free e =
     write_by g (Delete key) view kept look found word answer
-    (raised_of (need_of (brief_of g.known.log.lane (call_of (Delete key) view kept)) look) (gate_of word).stamp) owner free refl e
+    (raised_of (need_of (brief_of g.known.log.lane (call_of (Delete key) view kept)) look) (gate_of word).stamp) tt free refl e
 
 gate_by : (g : Base) (call : Call) (view : SessionView) (kept : List ℕ) (look : ℕ) (found : Located) (word : ℕ) (answer : Answer) (b : Bool) → let a = call_of call view kept in
     is_owner g.known.log.lane look ≡ true → (gate_of word).fenced ≡ b
@@ -230,11 +245,20 @@ gate_by : (g : Base) (call : Call) (view : SessionView) (kept : List ℕ) (look 
 gate_by g call view kept look found word answer true owner t e = due _ word (Fenced word) answer e (refl, inl (refl, t))
 gate_by g call view kept look found word answer false owner t e = open_by g call view kept look found word answer owner t e
 
-raised_is : (g : Base) (call : Call) (view : SessionView) (kept : List ℕ) (r : Raised) (word : ℕ) (m : Mode) → let a = call_of call view kept in
-    word ≡ r.gate → FitsRaised (brief_of g.known.log.lane a) r → Exchanges (lane_of g a m) r.gate
-    → IsRaised (lane_of g a m) word r.to
-raised_is g call view kept r word m same f h =
-    subst (λ n. IsRaised (lane_of g (call_of call view kept) m) n r.to) (sym same) (record { exchanges = h; look = r.look; owner = f.owner; rule = f.rule })
+raised_is : (g : Base) (call : Call) (view : SessionView) (kept : List ℕ) (r : Raised) (place : Option Ref) (word : ℕ) (m : Mode) → let a = call_of call view kept in
+    word ≡ r.gate → FitsRaised (brief_of g.known.log.lane a) r → WaitsForExchange (lane_of g a m) r → Exchanges (lane_of g a m) r.gate
+    → IsRaised (lane_of g a m) word (receipt_of call view kept r.to place r.located.held) r.located.way
+raised_is g call view kept r place word m same f w h =
+    subst (λ n. IsRaised (lane_of g (call_of call view kept) m) n (receipt_of call view kept r.to place r.located.held) r.located.way) (sym same)
+    (record {
+      raised = r;
+      waits = w;
+      exchanges = h;
+      owner = f.owner;
+      rule = f.rule;
+      where_from = refl;
+      its = record { call = refl; number = refl };
+    })
 
 raised_by : (g : Base) (call : Call) (view : SessionView) (kept : List ℕ) (r : Raised) (word : ℕ) (answer : Answer) (b : Bool) → let a = call_of call view kept in
     FitsRaised (brief_of g.known.log.lane a) r → (word == r.gate) ≡ b
@@ -242,7 +266,7 @@ raised_by : (g : Base) (call : Call) (view : SessionView) (kept : List ℕ) (r :
     → CallCause (lane_of g a (mode.Acting (act.Call (phase.Raise r)))) word answer
 raised_by g call view kept r word answer true f t e =
     due _ word (Made (receipt_of call view kept r.to None r.located.held) r.located.way) answer e
-    (inr (raised_is g call view kept r word (mode.Acting (act.Call (phase.Raise r))) (eq_true word r.gate t) f (_, refl)))
+    (inr (raised_is g call view kept r None word (mode.Acting (act.Call (phase.Raise r))) (eq_true word r.gate t) f (inl refl) (_, refl)))
 raised_by g call view kept r word answer false f t e = due _ word (Fenced word) answer e (refl, inr (r.gate, (_, refl), eq_false word r.gate t))
 
 acts_by : (g : Base) (a : Asked) (wait : Act) (word : ℕ) (answer : Answer) → FitsAct (brief_of g.known.log.lane a) wait
@@ -262,7 +286,7 @@ counted_by : (g : Base) (call : Call) (view : SessionView) (kept : List ℕ) (r 
     (segments : ℕ) → segments ≡ length g.known.log.segments → g.known.log.pool ≤ word → Counts (lane_of g a m)
     → Done (Full word segments) ≡ Done answer → CallCause (lane_of g a m) word answer
 counted_by g call view kept r c word answer segments same full counts e =
-    due _ word (Full word segments) answer e (inr (record { counts = counts; told = refl; full = full; has = same }))
+    due _ word (Full word segments) answer e (inr (counts, record { full = full; read = refl; told = same }))
 
 reading_by : (g : Base) (call : Call) (view : SessionView) (kept : List ℕ) (r : Raised) (pool segments word : ℕ) (answer : Answer) (b : Bool) → let a = call_of call view kept in
     let m = mode.Claiming (find.Call (room_phase.Write r)) (claim.Reading pool segments) in
@@ -311,8 +335,8 @@ shut_by : (k : KnownState) (f : Fetching) (after : Base) (call : Call) (view : S
     → CallCause (lane_of (record { known = k; staging = []; fetch = f }) a m) word answer
 shut_by k f after call view kept r place word answer true fits t e =
     due _ word (Made (receipt_of call view kept r.to (Some place) r.located.held) r.located.way) answer e
-    (inr (raised_is (record { known = k; staging = []; fetch = f }) call view kept r word
-    (mode.Sealing (seal.Call (seal_phase.Write r)) (call_seal call (sealing_of (seal_phase.Write r)))) (eq_true word r.gate t) fits (_, refl)))
+    (inr (raised_is (record { known = k; staging = []; fetch = f }) call view kept r (Some place) word
+    (mode.Sealing (seal.Call (seal_phase.Write r)) (call_seal call (sealing_of (seal_phase.Write r)))) (eq_true word r.gate t) fits (inr (_, refl)) (_, refl)))
 shut_by k f after call view kept r place word answer false fits t e =
     due _ word (Fenced word) answer e (refl, inr (r.gate, (_, refl), eq_false word r.gate t))
 

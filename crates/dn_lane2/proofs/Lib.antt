@@ -5,7 +5,6 @@ pub mod CallRuns
 pub mod TaskKeys
 pub mod TaskRuns
 pub mod BeginLaws
-pub mod FootprintLaws
 pub mod CallCauseLaws
 pub mod EndingLaws
 pub mod TaskCauseLaws

@@ -1,4 +1,4 @@
-use Rattle.std.proofs.Common.{◌≡◌, ◌≢◌, ◌≤◌, ◌<◌, ℕ, ◌+◌, ◌-◌, ◌^◌, ◌==◌, nat_lt, Bool, true, false, length, List, [], ◌∷◌, Option, Some, inl, inr, if◌then◌else◌, refl, subst, ap, ◌∙◌, arith}
+use Rattle.std.proofs.Common.{◌≡◌, ◌≢◌, ◌≤◌, ℕ, ◌+◌, ◌-◌, ◌^◌, ◌==◌, nat_lt, Bool, true, false, length, List, [], ◌∷◌, Option, Some, inl, inr, if◌then◌else◌, refl, subst, ap, ◌∙◌, arith}
 use Rattle.std.proofs.lemmas.Bool.Decides.{nat_tests}
 use Rattle.dn_word.specs.Deed.{deed_of}
 use Rattle.dn_word.specs.Gate.{gate_of}
@@ -81,8 +81,8 @@ use Rattle.dn_lane2.specs.Found.{said_in, kept_in, value_in}
 use Rattle.dn_lane2.specs.Next.{next_in}
 use Rattle.dn_lane2.specs.State.{LaneState}
 use Rattle.dn_lane2.specs.Taken.{by, entered, entered_then, entered_after, entered_next, roomed_by, sought_by, sealed_by, taken_by, learnt_by}
-use Rattle.dn_lane2.specs.TaskCauses.{lane_of, said_by, told_in, TaskCause}
-use Rattle.dn_lane2.specs.CallCauses.{Does}
+use Rattle.dn_lane2.specs.TaskCauses.{lane_of, IsAt, Seeks, Seals, Looks, said_by, told_in, TaskCause}
+use Rattle.dn_lane2.specs.CallCauses.{Does, FindsGate}
 use Rattle.dn_lane2.specs.Turns.{turned, turn_of}
 use Rattle.dn_lane2.specs.declared.answers.Turn.{Turn}
 use Rattle.dn_lane2.specs.declared.answers.Turn.TheVariants.{More, Done, Tended}
@@ -141,17 +141,17 @@ call_caused l word g a step = call_next_caused l word (record g { known = learnt
 abbrev told : LaneState → TendTurn → Turn
 told l step = turned (by l.asked (entered l.base l.asked (task_step step)))
 
-deed_by : (l : LaneState) (word slot : ℕ) (b : Bool) → slot < 64 → Does l (Load (deed_at slot)) → asks_to_leave (lane_of l) word ≡ b
+deed_by : (l : LaneState) (word slot : ℕ) (b : Bool) → IsAt l (at.Deed slot) → Does l (Load (deed_at slot)) → asks_to_leave (lane_of l) word ≡ b
     → Caused l word (told l (learns (Epoch slot (deed_of word).epoch) (if b then acts (at.GiveUp slot word) else ends (NotLeaving word))))
-deed_by l word slot true f d e = tt
-deed_by l word slot false f d e = (slot, f, d, refl, e)
+deed_by l word slot true m d e = tt
+deed_by l word slot false m d e = (slot, m, d, refl, e)
 
-give_up_by : (l : LaneState) (word slot deed : ℕ) (b : Bool) → slot < 64 → asks_to_leave (lane_of l) deed ≡ true → Does l (Cas (deed_at slot) deed (given_up deed)) → (word == deed) ≡ b
+give_up_by : (l : LaneState) (word slot deed : ℕ) (b : Bool) → IsAt l (at.GiveUp slot deed) → asks_to_leave (lane_of l) deed ≡ true → Does l (Cas (deed_at slot) deed (given_up deed)) → (word == deed) ≡ b
     → Caused l word (told l (goes (if b then ends Released else ends (Again deed word))))
-give_up_by l word slot deed true f leaves d e = (slot, deed, f, d, leaves, same_words word deed e)
-give_up_by l word slot deed false f leaves d e = (refl, other_words word deed e, inl (slot, f, d))
+give_up_by l word slot deed true m leaves d e = (slot, deed, m, d, leaves, same_words word deed e)
+give_up_by l word slot deed false m leaves d e = (refl, other_words word deed e, inl (slot, m, d))
 
-look_by : (l : LaneState) (word key : ℕ) (phase : TendLocate) (b : Bool) → Does l (Load (deed_at (slot_of key))) → is_owner (lane_of l) word ≡ b
+look_by : (l : LaneState) (word key : ℕ) (phase : TendLocate) (b : Bool) → Looks l key → is_owner (lane_of l) word ≡ b
     → Caused l word (told l (learns (Epoch (slot_of key) (deed_of word).epoch) (if b then next.Locate phase else ends (NotOwner word))))
 look_by l word key phase true d e = tt
 look_by l word key phase false d e = (key, d, refl, e)
@@ -162,14 +162,14 @@ found_caused l word g a (find.Share share) = tt
 found_caused l word g a (find.Unshare unshare gate) = tt
 
 room_by : (l : LaneState) (word : ℕ) (g : Base) (phase : TendRoom) (need all : Bool) → (plan_of l.base.known.log (words_in l.asked)).need_segment ≡ need
-    → (length l.base.known.log.segments == 256) ≡ all → Does l (Load (gate_at (lane_of l)))
+    → (length l.base.known.log.segments == 256) ≡ all → FindsGate l word false
     → Caused l word (turned (by l.asked (roomed_by g l.asked (asks_room.Task phase)
     (if need then (if all then turn.Told (room.Full 0 256) else turn.More (claim.Reading l.base.known.log.pool (length l.base.known.log.segments))) else turn.Told room.Found))))
 room_by l word g phase true true e h d = inl (d, record { needs = e; all = same_words (length l.base.known.log.segments) 256 h; none_read = refl; told = refl })
 room_by l word g phase true false e h d = tt
 room_by l word g phase false all e h d = found_caused l word g l.asked phase
 
-gate_room : (l : LaneState) (word : ℕ) (phase : TendRoom) → Does l (Load (gate_at (lane_of l))) → Caused l word (told l (goes (rooms phase)))
+gate_room : (l : LaneState) (word : ℕ) (phase : TendRoom) → FindsGate l word false → Caused l word (told l (goes (rooms phase)))
 gate_room l word phase d =
     room_by l word _ phase (plan_of l.base.known.log (words_in l.asked)).need_segment (length l.base.known.log.segments == 256) refl refl d
 
@@ -199,7 +199,7 @@ share_worn_by : (l : LaneState) (word key look : ℕ) (place : Option Ref) (b : 
     else rooms (find.Share (record { key = key; look = look; gate = word; opening = opening_word (share_stamp look word + 1) place })))))
 share_worn_by l word key look place true m d free e = (refl, inl (key, look, place, m, d, free, same_words (share_stamp look word) (2 ^ 31 - 1) e))
 share_worn_by l word key look place false m d free e =
-    gate_room l word (find.Share (record { key = key; look = look; gate = word; opening = opening_word (share_stamp look word + 1) place })) d
+    gate_room l word (find.Share (record { key = key; look = look; gate = word; opening = opening_word (share_stamp look word + 1) place })) (d, free)
 
 share_gate_by : (l : LaneState) (word key look : ℕ) (place : Option Ref) (b : Bool) → l.mode ≡ mode.Acting (act.Task (at.ShareGate key look place))
     → Does l (Load (gate_at (lane_of l))) → (gate_of word).fenced ≡ b
@@ -210,7 +210,7 @@ share_gate_by l word key look place false m d e = share_worn_by l word key look 
 unshare_gate_by : (l : LaneState) (word : ℕ) (unshare : Unshare) (b : Bool) → Does l (Load (gate_at (lane_of l))) → (gate_of word).fenced ≡ b
     → Caused l word (told l (if b then barred word else goes (rooms (find.Unshare unshare word))))
 unshare_gate_by l word unshare true d e = (refl, inl (d, e))
-unshare_gate_by l word unshare false d e = gate_room l word (find.Unshare unshare word) d
+unshare_gate_by l word unshare false d e = gate_room l word (find.Unshare unshare word) (d, e)
 
 -- ---- cells
 count_by : (l : LaneState) (word : ℕ) (share : Share) (b : Bool) → Does l (Load cell_counter_at) → nat_lt word 256 ≡ b
@@ -234,10 +234,10 @@ cell_by l word unshare gate true m d e = (refl, inr (unshare, gate, m, d, same_w
 cell_by l word unshare gate false m d e =
     closes_by l word (unshare_seal unshare gate word (unshare_stamp unshare gate word + 1)) (at.Close unshare gate word (unshare_stamp unshare gate word + 1)) (cell_in unshare.opening word).closed
 
-close_by : (l : LaneState) (word : ℕ) (unshare : Unshare) (seen : ℕ) (phase : TendSealing) (b : Bool) → Does l (Cas (cell_at unshare.cell) seen (closed_word unshare.opening seen))
+close_by : (l : LaneState) (word : ℕ) (unshare : Unshare) (gate stamp seen : ℕ) (phase : TendSealing) (b : Bool) → IsAt l (at.Close unshare gate seen stamp) → Does l (Cas (cell_at unshare.cell) seen (closed_word unshare.opening seen))
     → (word == seen) ≡ b → Caused l word (told l (goes (if b then seals phase else ends (Again seen word))))
-close_by l word unshare seen phase true d e = tt
-close_by l word unshare seen phase false d e = (refl, other_words word seen e, inr (unshare.cell, closed_word unshare.opening seen, d))
+close_by l word unshare gate stamp seen phase true m d e = tt
+close_by l word unshare gate stamp seen phase false m d e = (refl, other_words word seen e, inr (unshare, gate, stamp, m, d))
 
 -- ---- each action
 does : (l : LaneState) (phase : TendAct) → l.mode ≡ mode.Acting (act.Task phase) → Does l (asked_action (brief_of (lane_of l) l.asked) (act.Task phase))
@@ -245,19 +245,19 @@ does l phase m = ap (λ (x : Mode). next_in l.base l.asked x) m
 
 act_caused : (l : LaneState) (word : ℕ) (phase : TendAct) → FitsTaskAct (lane_of l) phase → l.mode ≡ mode.Acting (act.Task phase)
     → Caused l word (told l (taken_in (lane_of l) phase word))
-act_caused l word (at.Deed slot) f m = deed_by l word slot (asks_to_leave (lane_of l) word) f (does l _ m) refl
-act_caused l word (at.GiveUp slot deed) f m = give_up_by l word slot deed (word == deed) f.0 f.1 (does l _ m) refl
-act_caused l word at.Mark f m = (does l _ m, refl)
-act_caused l word (at.ShareLook key) f m = look_by l word key (locate.Share key word) (is_owner (lane_of l) word) (does l _ m) refl
+act_caused l word (at.Deed slot) f m = deed_by l word slot (asks_to_leave (lane_of l) word) m (does l _ m) refl
+act_caused l word (at.GiveUp slot deed) f m = give_up_by l word slot deed (word == deed) m f.1 (does l _ m) refl
+act_caused l word at.Mark f m = (m, does l _ m, refl)
+act_caused l word (at.ShareLook key) f m = look_by l word key (locate.Share key word) (is_owner (lane_of l) word) (inl m, does l _ m) refl
 act_caused l word (at.ShareGate key look place) f m = share_gate_by l word key look place (gate_of word).fenced m (does l _ m) refl
 act_caused l word (at.Count share) f m = count_by l word share (nat_lt word 256) (does l _ m) refl
 act_caused l word (at.Claim share) f m = claim_by l word share (nat_lt word 256) (does l _ m) refl
 act_caused l word (at.Name share cell) f m = tt
-act_caused l word (at.Open share cell) f m = inr (share.opening, does l _ m)
-act_caused l word (at.UnshareLook key) f m = look_by l word key (locate.Unshare key word) (is_owner (lane_of l) word) (does l _ m) refl
+act_caused l word (at.Open share cell) f m = inr (share, m, does l _ m)
+act_caused l word (at.UnshareLook key) f m = look_by l word key (locate.Unshare key word) (is_owner (lane_of l) word) (inr m, does l _ m) refl
 act_caused l word (at.UnshareGate unshare) f m = unshare_gate_by l word unshare (gate_of word).fenced (does l _ m) refl
 act_caused l word (at.Cell unshare gate) f m = cell_by l word unshare gate (unshare_stamp unshare gate word == 2 ^ 31 - 1) m (does l _ m) refl
-act_caused l word (at.Close unshare gate seen stamp) f m = close_by l word unshare seen (unshare_seal unshare gate seen stamp) (word == seen) (does l _ m) refl
+act_caused l word (at.Close unshare gate seen stamp) f m = close_by l word unshare gate stamp seen (unshare_seal unshare gate seen stamp) (word == seen) m (does l _ m) refl
 
 -- ---- the location of the key
 -- it only loads
@@ -288,52 +288,52 @@ find_loads : (f : Fetching) (s : Find) → IsReady f s → IsLoadOf (find_next f
 find_loads f (finds.Walk w) h = walk_loads w.key w.place h
 find_loads f (finds.Fetch way) h = fetch_loads f f.place
 
-located_caused : (l : LaneState) (word : ℕ) (g : Base) (a : Asked) (phase : TendLocate) (s : TendFound) (at : ℕ) → Does l (Load at) → told_in l l.mode word ≡ Some s
+located_caused : (l : LaneState) (word : ℕ) (g : Base) (a : Asked) (phase : TendLocate) (s : TendFound) (at : ℕ) → Seeks l phase → Does l (Load at) → told_in l l.mode word ≡ Some s
     → Caused l word (turned (by a (entered_after g a (task_after (located_in phase s)))))
-located_caused l word g a (locate.Share key look) said.Nothing at d e = tt
-located_caused l word g a (locate.Share key look) (said.At place) at d e = tt
-located_caused l word g a (locate.Share key look) (said.Shared cell opening) at d e = inl (opening, (at, d, e))
-located_caused l word g a (locate.Unshare key look) said.Nothing at d e = inl (at, d, e)
-located_caused l word g a (locate.Unshare key look) (said.At place) at d e = inr (place, (at, d, e))
-located_caused l word g a (locate.Unshare key look) (said.Shared cell opening) at d e = tt
+located_caused l word g a (locate.Share key look) said.Nothing at q d e = tt
+located_caused l word g a (locate.Share key look) (said.At place) at q d e = tt
+located_caused l word g a (locate.Share key look) (said.Shared cell opening) at q d e = inl (key, look, opening, q, (at, d, e))
+located_caused l word g a (locate.Unshare key look) said.Nothing at q d e = (key, look, q, inl (at, d, e))
+located_caused l word g a (locate.Unshare key look) (said.At place) at q d e = (key, look, q, inr (place, (at, d, e)))
+located_caused l word g a (locate.Unshare key look) (said.Shared cell opening) at q d e = tt
 
-here_caused : (l : LaneState) (word : ℕ) (g : Base) (phase : TendLocate) (way : Way) (there : Bool) (at : ℕ) → Does l (Load at)
+here_caused : (l : LaneState) (word : ℕ) (g : Base) (phase : TendLocate) (way : Way) (there : Bool) (at : ℕ) → Seeks l phase → Does l (Load at)
     → told_in l l.mode word ≡ said_by (found.Here way there) g.fetch
     → Caused l word (turned (sought_by g l.asked (asks_place.Task phase) (found.Here way there)))
-here_caused l word g phase way true at d e = located_caused l word g (kept_in l.asked (value_in g.fetch.words)).asked phase (said_in g.fetch.words g.fetch.at) at d e
-here_caused l word g phase way false at d e = located_caused l word g l.asked phase said.Nothing at d e
+here_caused l word g phase way true at q d e = located_caused l word g (kept_in l.asked (value_in g.fetch.words)).asked phase (said_in g.fetch.words g.fetch.at) at q d e
+here_caused l word g phase way false at q d e = located_caused l word g l.asked phase said.Nothing at q d e
 
-sought_caused : (l : LaneState) (word : ℕ) (g : Base) (wait : Locate) (f : Found) (at : ℕ) → Does l (Load at) → told_in l l.mode word ≡ said_by f g.fetch
+sought_caused : (l : LaneState) (word : ℕ) (g : Base) (wait : Locate) (f : Found) (at : ℕ) → ((find : Find) × (l.mode ≡ mode.Finding wait find)) → Does l (Load at) → told_in l l.mode word ≡ said_by f g.fetch
     → Caused l word (turned (sought_by g l.asked wait f))
-sought_caused l word g wait (found.More s) at d e = tt
-sought_caused l word g (asks_place.Call phase) (found.Here way there) at d e = call_after_caused l word g _ (located_of phase _)
-sought_caused l word g (asks_place.Task phase) (found.Here way there) at d e = here_caused l word g phase way there at d e
+sought_caused l word g wait (found.More s) at q d e = tt
+sought_caused l word g (asks_place.Call phase) (found.Here way there) at q d e = call_after_caused l word g _ (located_of phase _)
+sought_caused l word g (asks_place.Task phase) (found.Here way there) at q d e = here_caused l word g phase way there at q d e
 
 -- ---- the seal
-exchanged_by : (l : LaneState) (word : ℕ) (g : Base) (phase : TendSealing) (old new : ℕ) (b : Bool) → Does l (Cas (gate_at (lane_of l)) old new) → (word == old) ≡ b
+exchanged_by : (l : LaneState) (word : ℕ) (g : Base) (phase : TendSealing) (new : ℕ) (b : Bool) → let old = task_gate (seal_in phase) in Seals l phase → Does l (Cas (gate_at (lane_of l)) old new) → (word == old) ≡ b
     → Caused l word (turned (by l.asked (entered g l.asked (if b then goes_on (task_next (sealed_in phase)) else shut word))))
-exchanged_by l word g (seal.Share share cell) old new true d e = tt
-exchanged_by l word g (seal.Unshare unshare place stamp gate) old new true d e = (old, new, d, same_words word old e)
-exchanged_by l word g phase old new false d e = (refl, inr (old, (new, d), other_words word old e))
+exchanged_by l word g (seal.Share share cell) new true q d e = tt
+exchanged_by l word g (seal.Unshare unshare place stamp gate) new true q d e = (unshare, place, stamp, gate, q, (new, d), same_words word gate e)
+exchanged_by l word g phase new false q d e = (refl, inr (task_gate (seal_in phase), (new, d), other_words word (task_gate (seal_in phase)) e))
 
-sealed_caused : (l : LaneState) (word : ℕ) (g : Base) (wait : SealWait) (place : Ref) (new : ℕ) → Does l (Cas (gate_at (lane_of l)) (gate_in (record_in wait)) new)
+sealed_caused : (l : LaneState) (word : ℕ) (g : Base) (wait : SealWait) (place : Ref) (new : ℕ) → ((s : Seal) × (l.mode ≡ mode.Sealing wait s)) → Does l (Cas (gate_at (lane_of l)) (gate_in (record_in wait)) new)
     → Caused l word (turned (by l.asked (entered g l.asked (asked_sealed place word wait))))
-sealed_caused l word g (asks_seal.Call phase) place new d = call_caused l word g l.asked (sealed_of phase place word)
-sealed_caused l word g (asks_seal.Task phase) place new d = exchanged_by l word g phase (task_gate (seal_in phase)) new (word == task_gate (seal_in phase)) d refl
+sealed_caused l word g (asks_seal.Call phase) place new q d = call_caused l word g l.asked (sealed_of phase place word)
+sealed_caused l word g (asks_seal.Task phase) place new q d = exchanged_by l word g phase new (word == task_gate (seal_in phase)) q d refl
 
-seal_turn_caused : (l : LaneState) (word : ℕ) (g : Base) (wait : SealWait) (s : Seal) (t : SealTurn) (new : ℕ) → Does l (Cas (gate_at (lane_of l)) (gate_in (record_in wait)) new)
+seal_turn_caused : (l : LaneState) (word : ℕ) (g : Base) (wait : SealWait) (s : Seal) (t : SealTurn) (new : ℕ) → l.mode ≡ mode.Sealing wait s → Does l (Cas (gate_at (lane_of l)) (gate_in (record_in wait)) new)
     → Caused l word (turned (by l.asked (sealed_by g l.asked wait s word t)))
-seal_turn_caused l word g wait s sealed.More new d = tt
-seal_turn_caused l word g wait s (sealed.Sealed place) new d = sealed_caused l word g wait place new d
-seal_turn_caused l word g wait s (sealed.Shut place) new d = sealed_caused l word g wait place new d
+seal_turn_caused l word g wait s sealed.More new m d = tt
+seal_turn_caused l word g wait s (sealed.Sealed place) new m d = sealed_caused l word g wait place new (s, m) d
+seal_turn_caused l word g wait s (sealed.Shut place) new m d = sealed_caused l word g wait place new (s, m) d
 
-seal_caused : (l : LaneState) (word : ℕ) (g : Base) (wait : SealWait) (s : Seal) (waits : List Staged) → s.gate ≡ gate_in (record_in wait)
+seal_caused : (l : LaneState) (word : ℕ) (g : Base) (wait : SealWait) (s : Seal) (waits : List Staged) → s.gate ≡ gate_in (record_in wait) → l.mode ≡ mode.Sealing wait s
     → Does l (seal_next l.base.known s waits)
     → Caused l word (turned (by l.asked (sealed_by g l.asked wait s word (seal_turn l.base.known s word waits))))
-seal_caused l word g wait s [] same d =
-    seal_turn_caused l word g wait s (seal_turn l.base.known s word []) (new_gate l.base.known s)
+seal_caused l word g wait s [] same m d =
+    seal_turn_caused l word g wait s (seal_turn l.base.known s word []) (new_gate l.base.known s) m
     (subst (λ (n : ℕ). Does l (Cas (gate_at (lane_of l)) n (new_gate l.base.known s))) same d)
-seal_caused l word g wait s (w ∷ ws) same d = tt
+seal_caused l word g wait s (w ∷ ws) same m d = tt
 
 -- ---- each mode
 mode_caused : (l : LaneState) (word : ℕ) (m : Mode) → FitsMode l.base l.asked m → l.mode ≡ m → Caused l word (turned (taken_by l.base l.asked m word))
@@ -342,10 +342,10 @@ mode_caused l word (mode.Acting (act.Call phase)) f e = call_caused l word l.bas
 mode_caused l word (mode.Acting (act.Task phase)) f e = act_caused l word phase f.1.1 e
 mode_caused l word (mode.Finding wait s) f e =
     let load : IsLoadOf (find_next l.base.fetch s) = find_loads l.base.fetch s f.3.ready in
-    sought_caused l word _ wait _ load.at (ap (λ (x : Mode). next_in l.base l.asked x) e ∙ ap (λ (x : Action). Some x) load.is) (ap (λ (x : Mode). told_in l x word) e)
+    sought_caused l word _ wait _ load.at (s, e) (ap (λ (x : Mode). next_in l.base l.asked x) e ∙ ap (λ (x : Action). Some x) load.is) (ap (λ (x : Mode). told_in l x word) e)
 mode_caused l word (mode.Claiming (asks_room.Call phase) c) f e = call_room_caused l word _ l.asked phase _
 mode_caused l word (mode.Claiming (asks_room.Task phase) c) f e = claim_caused l word phase c f.3 e
-mode_caused l word (mode.Sealing wait s) f e = seal_caused l word _ wait s l.base.staging (seal_gate l.asked s (record_in wait) f.3) (ap (λ (x : Mode). next_in l.base l.asked x) e)
+mode_caused l word (mode.Sealing wait s) f e = seal_caused l word _ wait s l.base.staging (seal_gate l.asked s (record_in wait) f.3) e (ap (λ (x : Mode). next_in l.base l.asked x) e)
 
 pub task_cause : (l : LaneState) (word : ℕ) (answer : TaskAnswer) → FitsMode l.base l.asked l.mode → turn_of l word ≡ Tended answer → TaskCause l word answer
 task_cause l word answer f e = subst (λ (t : Turn). Caused l word t) e (mode_caused l word l.mode f refl)

@@ -42,7 +42,7 @@ answer_of call view room (ending.Fenced gate) = answer.Fenced gate
 answer_of call view room (ending.Full counter segments) = answer.Full counter segments
 answer_of call view room (ending.Worn stamp) = answer.Worn stamp
 
--- a task, and nobody, ends as a task does
+-- an end of a call tells nothing where no call was asked
 abbrev pub called : Asked → Ending → Turn
 called asked.Nothing ending = More
 called (asked.Call call view room) ending = Done (answer_of call view room ending)

@@ -11,15 +11,15 @@ use Rattle.dn_tend.specs.Tend.{asks_to_leave, given_up}
 abbrev pub GivesUp : ℕ → ℕ → ℕ → ℕ → Type 0
 GivesUp lane at old new = (slot : ℕ) × (slot < 64) × (at ≡ deed_at slot) × (asks_to_leave lane old ≡ true) × (new ≡ given_up old)
 
--- the cell of a key that it shares
+-- a cell, from 0 to 255, and its key
 abbrev pub IsCell : ℕ → Type 0
-IsCell at = (cell : ℕ) × (at ≡ cell_at cell)
+IsCell at = (cell : ℕ) × (cell < 256) × (at ≡ cell_at cell)
 
 abbrev pub IsCellKey : ℕ → Type 0
-IsCellKey at = (cell : ℕ) × (at ≡ cell_key_at cell)
+IsCellKey at = (cell : ℕ) × (cell < 256) × (at ≡ cell_key_at cell)
 
--- A lane stores words of its own that wait, and the key of a cell that it claimed. It exchanges its own gate, the deed of a
--- slot that it is asked to leave, and cells. It adds 1 to the counter of segments and to that of cells. Else it loads.
+-- A lane stores words of its own that wait, and keys of cells. It exchanges its own gate, the deed of a slot that it is
+-- asked to leave, and cells. It adds 1 to the counter of segments and to that of cells. Else it loads.
 abbrev pub IsOfLane : ℕ → List Staged → Action → Type 0
 IsOfLane lane waits (Load at) = Unit {0}
 IsOfLane lane waits (Store at word) = Contains waits (record { at = at; word = word }) ⊎ IsCellKey at

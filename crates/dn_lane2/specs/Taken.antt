@@ -48,7 +48,8 @@ use Rattle.dn_lane2.specs.declared.modes.Going.TheVariants.{On, End}
 use Rattle.dn_lane2.specs.declared.modes.Mode.{Mode}
 use Rattle.dn_lane2.specs.declared.modes.Mode.TheVariants as mode
 
--- How a lane carries out a plan. No definition here knows a call from a task, nor one phase of a plan from another.
+-- How a lane carries out a plan. No definition here knows one phase of a plan from another, and only the record that is
+-- sealed tells a call from a task.
 
 -- how the plan goes on, and what the lane has then
 pub record Entered : Type 0 where

@@ -112,7 +112,7 @@ impl Lane {
         !matches!(self.mode, Mode::Idle)
     }
 
-    /// How many words wait to flow, at most 140. None waits but where a record is sealed.
+    /// How many words wait to flow. None waits but where a record is sealed.
     pub fn staged(&self) -> u32
         ensures value { result ≡ length self.now.base.staging }
         ensures waits { is_sealing self.now.mode ≡ false → result ≡ 0 }
@@ -137,7 +137,8 @@ impl Lane {
 
     /// Begins a call, and takes all memory that it will need: for a copy of the call, for a value that it finds, and for
     /// the places of the records that it seals. The call's session shows itself by `session`; the call's key isn't 0.
-    /// Calls on a key that lanes share aren't served yet: such a key is taken for one without a value.
+    /// Calls on a key that lanes share aren't served yet: a get finds no value, and a put or delete seals its record
+    /// beside the key's cell. So no lane may be asked to share a key on which it is given calls.
     ///
     /// After `Ok` the lane runs the program of the call to its end, whatever words its actions find. `Busy` comes exactly
     /// where a call or task is under way, `Fenced` where none is and an earlier one read the bit of a
@@ -203,9 +204,9 @@ impl Lane {
     }
 
     /// The next action of the plan under way, on a word of the pool: None exactly where no plan is. While words wait to
-    /// flow it is the store of the oldest. A lane stores words of its own that wait, and the key of a cell that it claimed;
-    /// it exchanges its own gate, the deed of a slot that it is asked to leave, and cells; it adds 1 to the counter of
-    /// segments and to that of cells; else it loads.
+    /// flow it is the store of the oldest. A lane stores words of its own that wait, and keys of cells; it exchanges its own
+    /// gate, the deed of a slot that it is asked to leave, and cells; it adds 1 to the counter of segments and to that of
+    /// cells; else it loads.
     pub fn next(&self) -> Option<Action>
         ensures value { result ≡ next_of self.now }
         ensures footprint { IfSome result (IsOfLane self.now.base.known.log.lane
@@ -254,7 +255,9 @@ impl Lane {
     /// The store of the staged word at this place from the oldest, which is 0. None exactly where no more than `index`
     /// words wait. While words wait, any of them may flow next.
     pub fn flow(&self, index: u32) -> Option<Action>
-        ensures { result ≡ flow_of self.now.base.staging index }
+        ensures value { result ≡ flow_of self.now.base.staging index }
+        ensures within { IfSome result (λ action.
+            at_of action < pool_size self.now.base.known.log.pool) }
     {
         self.base.staging.flow(index)
     }

@@ -37,7 +37,7 @@ FitsTask (task.Unshare key) = key ≢ 0
 abbrev pub FitsFound : TendFound → Type 0
 FitsFound found.Nothing = Unit {0}
 FitsFound (found.At place) = place.offset < 2 ^ 24
-FitsFound (found.Shared cell opening) = Unit {0}
+FitsFound (found.Shared cell opening) = cell < 256
 
 -- a look by which the lane is owner
 abbrev pub IsLook : ℕ → ℕ → Type 0
@@ -55,12 +55,13 @@ FitsAct lane (at.ShareLook key) = key ≢ 0
 FitsAct lane (at.ShareGate key look place) = IsLook lane look × ForSome place (λ found. found.offset < 2 ^ 24)
 FitsAct lane (at.Count share) = IsLook lane share.look × WasOpen share.gate
 FitsAct lane (at.Claim share) = IsLook lane share.look × WasOpen share.gate
-FitsAct lane (at.Name share cell) = IsLook lane share.look × WasOpen share.gate
-FitsAct lane (at.Open share cell) = IsLook lane share.look × WasOpen share.gate
+FitsAct lane (at.Name share cell) = IsLook lane share.look × WasOpen share.gate × (cell < 256)
+FitsAct lane (at.Open share cell) = IsLook lane share.look × WasOpen share.gate × (cell < 256)
 FitsAct lane (at.UnshareLook key) = key ≢ 0
-FitsAct lane (at.UnshareGate unshare) = IsLook lane unshare.look
-FitsAct lane (at.Cell unshare gate) = IsLook lane unshare.look × WasOpen gate
-FitsAct lane (at.Close unshare gate seen stamp) = IsLook lane unshare.look × WasOpen gate × (stamp < 2 ^ 31)
+FitsAct lane (at.UnshareGate unshare) = IsLook lane unshare.look × (unshare.cell < 256)
+FitsAct lane (at.Cell unshare gate) = IsLook lane unshare.look × WasOpen gate × (unshare.cell < 256)
+FitsAct lane (at.Close unshare gate seen stamp) =
+    IsLook lane unshare.look × WasOpen gate × (stamp < 2 ^ 31) × (unshare.cell < 256)
 
 abbrev pub FitsLocate : ℕ → TendLocate → Type 0
 FitsLocate lane (locate.Share key look) = (key ≢ 0) × IsLook lane look
@@ -68,10 +69,10 @@ FitsLocate lane (locate.Unshare key look) = (key ≢ 0) × IsLook lane look
 
 abbrev pub FitsRoom : ℕ → TendRoom → Type 0
 FitsRoom lane (find.Share share) = IsLook lane share.look × WasOpen share.gate
-FitsRoom lane (find.Unshare unshare gate) = IsLook lane unshare.look × WasOpen gate
+FitsRoom lane (find.Unshare unshare gate) = IsLook lane unshare.look × WasOpen gate × (unshare.cell < 256)
 
 abbrev pub FitsSeal : ℕ → TendSealing → Type 0
-FitsSeal lane (seal.Share share cell) = IsLook lane share.look × WasOpen share.gate
+FitsSeal lane (seal.Share share cell) = IsLook lane share.look × WasOpen share.gate × (cell < 256)
 FitsSeal lane (seal.Unshare unshare place stamp gate) =
     IsLook lane unshare.look × WasOpen gate × (stamp < 2 ^ 31) × ForSome place (λ found. found.offset < 2 ^ 24)
 
