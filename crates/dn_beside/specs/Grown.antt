@@ -1,0 +1,12 @@
+use Rattle.std.specs.Prelude.{◌≡◌, ℕ, ◌*◌, ◌<◌}
+use Rattle.dn_model.specs.Regions.{directory, IsLane}
+use Rattle.dn_owners.specs.Later.{IsLater}
+use Rattle.dn_beside.specs.Pool.{Pool, store_in}
+
+-- What every actor sees of any step: logs, gates, marks, epochs, floors and promises only grow, and what is sealed stays
+-- where it is, since the directories stay up to the sealed lengths.
+pub record Grows (p q : Pool) : Type 0 where
+  pub later : IsLater p.owners q.owners
+  pub pool : (store_in q).pool ≡ (store_in p).pool
+  pub named : (n i : ℕ) → IsLane n → i * 1024 < ((store_in p).gates n).len
+      → directory q.words n i ≡ directory p.words n i
