@@ -1,0 +1,4 @@
+pub mod Looks
+pub mod Lasts
+pub mod Asks
+pub mod Lessons

@@ -1,0 +1,3 @@
+pub mod Learning
+pub mod Heeding
+pub mod Pendings
