@@ -1,0 +1,51 @@
+use Rattle.std.specs.Prelude.{◌≡◌, ◌≢◌, ◌<◌, ◌^◌, ℕ, Bool, false, List, Option, Some, None, if◌then◌else◌}
+use Rattle.dn_word.specs.Gate.{gate_of}
+use Rattle.dn_word.specs.Deed.{deed_of}
+use Rattle.dn_word.specs.Need.{raised_of}
+use Rattle.dn_record.specs.Grammar.{IsValue}
+use Rattle.dn_record.specs.declared.records.Record.{Record}
+use Rattle.dn_record.specs.declared.records.Record.TheVariants as entry
+use Rattle.dn_hist.specs.Calls.{key_of}
+use Rattle.dn_hist.specs.declared.calls.Call.{Call}
+use Rattle.dn_hist.specs.declared.calls.Call.TheVariants.{Get, Put, Delete}
+use Rattle.dn_model.specs.Regions.{slot_of}
+use Rattle.dn_plan.specs.Plan.{need_of}
+use Rattle.dn_plan.specs.declared.phases.Raised.{Raised}
+use Rattle.dn_lane2.specs.Asked.{brief_of, call_in}
+use Rattle.dn_lane2.specs.declared.asked.Asked.{Asked}
+use Rattle.dn_lane2.specs.declared.asked.Asked.TheVariants as asked
+use Rattle.dn_beside.specs.Pool.{Pool}
+use Rattle.dn_learnt.specs.Heeding.{HasLooked}
+
+-- The call that a lane is asked.
+
+-- it has a key, and a value that a record can have
+abbrev pub IsCall : Call → Type 0
+IsCall (Get key) = key ≢ 0
+IsCall (Put key value) = (key ≢ 0) × IsValue value
+IsCall (Delete key) = key ≢ 0
+
+-- the record that a put or delete seals; a get seals none
+abbrev pub record_of : Call → Record
+record_of (Get key) = entry.Delete key
+record_of (Put key value) = entry.Put key value
+record_of (Delete key) = entry.Delete key
+
+abbrev pub IsCalled : Asked → Type 0
+IsCalled asked.Nothing = ⊥
+IsCalled (asked.Call call view room) = IsCall call × (view.last.stamp < 2 ^ 31)
+IsCalled asked.Task = ⊥
+
+abbrev pub key_in : Asked → ℕ
+key_in a = key_of (call_in a)
+
+-- it has looked at the slot of its key, and found this deed
+pub record HasLook (p : Pool) (n : ℕ) (a : Asked) (look : ℕ) : Type 0 where
+  pub called : IsCalled a
+  pub looked : HasLooked p n (slot_of (key_in a)) look
+
+-- and has loaded a gate without the bit, by which it has its position
+pub record HasRaised (p : Pool) (n : ℕ) (a : Asked) (r : Raised) : Type 0 where
+  pub look : HasLook p n a r.look
+  pub clear : (gate_of r.gate).fenced ≡ false
+  pub rule : raised_of (need_of (brief_of n a) r.look) (gate_of r.gate).stamp ≡ Some r.to

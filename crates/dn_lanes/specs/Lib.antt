@@ -1,0 +1,5 @@
+pub mod Calls
+pub mod Phases
+pub mod Lane
+pub mod Joined
+pub mod Stepped

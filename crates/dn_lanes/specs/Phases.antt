@@ -1,0 +1,156 @@
+use Rattle.std.specs.Prelude.{◌≡◌, ◌<◌, ℕ, Bool, true, false, List, [], Option, Some, None}
+use Rattle.dn_act.specs.Words.{word_at}
+use Rattle.dn_record.specs.Record.{value_of}
+use Rattle.dn_record.specs.declared.records.Record.{Record}
+use Rattle.dn_hist.specs.Calls.{found_of}
+use Rattle.dn_hist.specs.declared.calls.Call.{Call}
+use Rattle.dn_hist.specs.declared.calls.Call.TheVariants.{Get, Put, Delete}
+use Rattle.dn_hist.specs.declared.calls.Reply.{Reply}
+use Rattle.dn_model.specs.Held.{is_authority}
+use Rattle.dn_model.specs.OneLog.{is_plain}
+use Rattle.dn_model.specs.Regions.{gate_at}
+use Rattle.dn_store.specs.Holding.{authority_in}
+use Rattle.dn_owners.specs.Sound.{Agrees}
+use Rattle.dn_find.specs.declared.finds.Find.{Find}
+use Rattle.dn_log.specs.declared.claims.Claim.{Claim}
+use Rattle.dn_plan.specs.Fit.{IsRead, IsWrite}
+use Rattle.dn_plan.specs.declared.phases.ActPhase.{ActPhase}
+use Rattle.dn_plan.specs.declared.phases.ActPhase.TheVariants as phase
+use Rattle.dn_plan.specs.declared.phases.LocatePhase.{LocatePhase}
+use Rattle.dn_plan.specs.declared.phases.LocatePhase.TheVariants.{Owner}
+use Rattle.dn_plan.specs.declared.phases.Located.{Located}
+use Rattle.dn_plan.specs.declared.phases.Raised.{Raised}
+use Rattle.dn_plan.specs.declared.phases.RoomPhase.{RoomPhase}
+use Rattle.dn_plan.specs.declared.phases.RoomPhase.TheVariants as rooming
+use Rattle.dn_plan.specs.declared.phases.SealPhase.{SealPhase}
+use Rattle.dn_plan.specs.declared.phases.SealPhase.TheVariants as sealing
+use Rattle.dn_tend.specs.Tend.{asks_to_leave}
+use Rattle.dn_tend.specs.declared.phases.TendAct.{TendAct}
+use Rattle.dn_tend.specs.declared.phases.TendAct.TheVariants as at
+use Rattle.dn_ask.specs.Ask.{wish_in, record_in}
+use Rattle.dn_ask.specs.declared.asks.Act.{Act}
+use Rattle.dn_ask.specs.declared.asks.Act.TheVariants as act
+use Rattle.dn_ask.specs.declared.asks.FindRoom.{FindRoom}
+use Rattle.dn_ask.specs.declared.asks.FindRoom.TheVariants as room
+use Rattle.dn_ask.specs.declared.asks.Locate.{Locate}
+use Rattle.dn_ask.specs.declared.asks.Locate.TheVariants as locate
+use Rattle.dn_ask.specs.declared.asks.Seal.{Seal as SealWait}
+use Rattle.dn_ask.specs.declared.asks.Seal.TheVariants as seal
+use Rattle.dn_services.specs.Room.{IsClaimFor}
+use Rattle.dn_services.specs.declared.seals.Seal.{Seal}
+use Rattle.dn_lane2.specs.Asked.{brief_of, call_in}
+use Rattle.dn_lane2.specs.Ends.{reply_in}
+use Rattle.dn_lane2.specs.Taken.{sealing_by}
+use Rattle.dn_lane2.specs.declared.asked.Asked.{Asked}
+use Rattle.dn_lane2.specs.declared.asked.Asked.TheVariants as asked
+use Rattle.dn_lane2.specs.declared.base.Base.{Base}
+use Rattle.dn_lane2.specs.declared.modes.Mode.{Mode}
+use Rattle.dn_lane2.specs.declared.modes.Mode.TheVariants as mode
+use Rattle.dn_beside.specs.Pool.{Pool, store_in}
+use Rattle.dn_reach.specs.Placing.{plan_for, staged_for}
+use Rattle.dn_reach.specs.Staging.{MayStageAll, AreFlowing}
+use Rattle.dn_seek.specs.Loading.{OnlyLoads}
+use Rattle.dn_seek.specs.Seeking.{KnowsSeek}
+use Rattle.dn_lanes.specs.Calls.{record_of, IsCalled, key_in, HasLook, HasRaised}
+
+-- What a lane knows at each phase of a call that a slot's owner makes, and of the tasks release and trim. Keys that
+-- lanes share have no phases yet.
+
+-- ---- Always, also behind a fence.
+-- it has looked at nothing
+abbrev pub LooksAtNothing : Pool → ℕ → Type 0
+LooksAtNothing p n = (p.owners.knows n).look ≡ None
+
+abbrev pub IsCalling : Pool → ℕ → Base → Asked → ActPhase → Type 0
+IsCalling p n g a phase.Look = IsCalled a × LooksAtNothing p n
+IsCalling p n g a (phase.Gate look located) = HasLook p n a look
+IsCalling p n g a (phase.Raise r) = HasRaised p n a r × IsRead (brief_of n a).kind
+
+abbrev pub IsTending : Pool → ℕ → TendAct → Type 0
+IsTending p n (at.Deed slot) = (slot < 64) × LooksAtNothing p n
+IsTending p n (at.GiveUp slot deed) = (slot < 64) × LooksAtNothing p n × (asks_to_leave n deed ≡ true)
+IsTending p n at.Mark = LooksAtNothing p n
+IsTending p n (at.ShareLook key) = ⊥
+IsTending p n (at.ShareGate key look place) = ⊥
+IsTending p n (at.Count share) = ⊥
+IsTending p n (at.Claim share) = ⊥
+IsTending p n (at.Name share cell) = ⊥
+IsTending p n (at.Open share cell) = ⊥
+IsTending p n (at.UnshareLook key) = ⊥
+IsTending p n (at.UnshareGate unshare) = ⊥
+IsTending p n (at.Cell unshare gate) = ⊥
+IsTending p n (at.Close unshare gate seen stamp) = ⊥
+
+abbrev pub IsActing : Pool → ℕ → Base → Asked → Act → Type 0
+IsActing p n g a (act.Call phase) = IsCalling p n g a phase
+IsActing p n g a (act.Task phase) = IsTending p n phase
+
+abbrev pub IsFinding : Pool → ℕ → Asked → Locate → Find → Type 0
+IsFinding p n a (locate.Call (Owner look)) find = HasLook p n a look × OnlyLoads find
+IsFinding p n a (locate.Task phase) find = ⊥
+
+-- a put or delete claims a segment for its record
+pub record IsClaiming (p : Pool) (n : ℕ) (g : Base) (a : Asked) (r : Raised) (c : Claim) : Type 0 where
+  pub raised : HasRaised p n a r
+  pub write : IsWrite (brief_of n a).kind
+  pub needs : (plan_for g.known.log (record_of (call_in a))).need_segment ≡ true
+  pub claims : IsClaimFor g.known.log c
+
+-- or its record has room, and what waits to flow may do so
+pub record IsSealing (p : Pool) (n : ℕ) (g : Base) (a : Asked) (r : Raised) (s : Seal) : Type 0 where
+  pub raised : HasRaised p n a r
+  pub write : IsWrite (brief_of n a).kind
+  pub is : s ≡ sealing_by a (record_in (seal.Call (sealing.Write r)))
+  pub room : (plan_for g.known.log (record_of (call_in a))).need_segment ≡ false
+  pub stages : MayStageAll g.known.log g.staging
+
+abbrev pub IsAt : Pool → ℕ → Base → Asked → Mode → Type 0
+IsAt p n g a mode.Idle = (g.staging ≡ []) × LooksAtNothing p n
+IsAt p n g a (mode.Acting wait) = (g.staging ≡ []) × IsActing p n g a wait
+IsAt p n g a (mode.Finding wait find) = (g.staging ≡ []) × IsFinding p n a wait find
+IsAt p n g a (mode.Claiming (room.Call (rooming.Write r)) claim) = (g.staging ≡ []) × IsClaiming p n g a r claim
+IsAt p n g a (mode.Claiming (room.Task phase) claim) = ⊥
+IsAt p n g a (mode.Sealing (seal.Call (sealing.Write r)) s) = IsSealing p n g a r s
+IsAt p n g a (mode.Sealing (seal.Task phase) s) = ⊥
+
+-- ---- While its gate has no bit.
+-- what a get will reply is what is held at its key
+pub record IsReply (p : Pool) (key : ℕ) (reply : Reply) : Type 0 where
+  pub of : Record
+  pub agrees : Agrees (authority_in (store_in p) key) key of
+  pub of_key : is_authority key of ≡ true
+  pub plain : is_plain of ≡ true
+  pub says : reply ≡ found_of (value_of of)
+
+abbrev pub IsReplyTo : Pool → Call → List ℕ → Bool → Type 0
+IsReplyTo p (Get key) value held = IsReply p key (reply_in (Get key) value held)
+IsReplyTo p (Put key value) room held = Unit {0}
+IsReplyTo p (Delete key) room held = Unit {0}
+
+abbrev pub KnowsReply : Pool → Asked → Bool → Type 0
+KnowsReply p asked.Nothing held = Unit {0}
+KnowsReply p (asked.Call call view room) held = IsReplyTo p call room held
+KnowsReply p asked.Task held = Unit {0}
+
+-- the gate that it loaded still stands
+abbrev pub KnowsGate : Pool → ℕ → Raised → Type 0
+KnowsGate p n r = word_at p.words (gate_at n) ≡ r.gate
+
+abbrev pub KnowsCalling : Pool → ℕ → Asked → ActPhase → Type 0
+KnowsCalling p n a phase.Look = Unit {0}
+KnowsCalling p n a (phase.Gate look located) = KnowsReply p a located.held
+KnowsCalling p n a (phase.Raise r) = KnowsGate p n r × KnowsReply p a r.located.held
+
+abbrev pub KnowsActing : Pool → ℕ → Asked → Act → Type 0
+KnowsActing p n a (act.Call phase) = KnowsCalling p n a phase
+KnowsActing p n a (act.Task phase) = Unit {0}
+
+abbrev pub Knows : Pool → ℕ → Base → Asked → Mode → Type 0
+Knows p n g a mode.Idle = Unit {0}
+Knows p n g a (mode.Acting wait) = KnowsActing p n a wait
+Knows p n g a (mode.Finding wait find) = KnowsSeek p n (key_in a) (wish_in (brief_of n a) wait) g.fetch find
+Knows p n g a (mode.Claiming (room.Call (rooming.Write r)) claim) = KnowsGate p n r
+Knows p n g a (mode.Claiming (room.Task phase) claim) = Unit {0}
+Knows p n g a (mode.Sealing (seal.Call (sealing.Write r)) s) =
+    KnowsGate p n r × AreFlowing p.words g.staging (staged_for g.known.log (record_of (call_in a)))
+Knows p n g a (mode.Sealing (seal.Task phase) s) = Unit {0}
