@@ -1,2 +1,4 @@
 pub mod Within
 pub mod Lasts
+pub mod OwnSteps
+pub mod Flows

@@ -1,5 +1,5 @@
 use Rattle.std.proofs.Common.{ℕ, zero, suc, ◌+◌, ◌-◌, ◌*◌, ◌<◌, ◌≤◌, ◌≡◌, ◌⊎◌, ◌++◌, Bool, true, false, nat_lt, if◌then◌else◌, List, [], ◌∷◌, Contains, length, slice_index, option_to_list, Option, Some, None, option_map, inl, inr, refl, sym, ◌∙◌, ap, arith}
-use Rattle.std.proofs.lemmas.List.{length-append}
+use Rattle.std.proofs.lemmas.List.{length-append, get_or-append-add}
 use Rattle.dn_log.specs.Log.{Log, reach_of, IsFit}
 use Rattle.dn_log.specs.declared.staging.Staged.{Staged}
 use Rattle.dn_log.proofs.WordLaws.{word_of-past, word_of-below}
@@ -32,3 +32,12 @@ may_outside log x fit (inr w) = inr (omega (arith, w.at_is, word_of-past log w.o
 pub may_below : (log : Log) (x : Staged) → IsFit log → MayStage log x → x.at < 98304 + 1024 * log.pool
 may_below log x fit (inl d) = omega (arith, (directory_inside log x fit d).1)
 may_below log x fit (inr w) = omega (arith, w.at_is, word_of-below log w.offset fit w.within)
+
+-- what the spare's number is in the lane's segments
+pub spare_last : (log : Log) (g : ℕ) → log.spare ≡ Some g → slice_index (reach_of log) (length log.segments) ≡ g
+spare_last log g e =
+    ap (λ (s : Option ℕ). slice_index (log.segments ++ option_to_list s) (length log.segments)) e
+    ∙ ap (λ i. slice_index (log.segments ++ g ∷ []) i) (plus_none (length log.segments)) ∙ get_or-append-add log.segments (g ∷ []) 0 0
+  where
+    plus_none : (n : ℕ) → n ≡ n + 0
+    plus_none n = omega arith

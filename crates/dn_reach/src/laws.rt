@@ -1,12 +1,18 @@
 //! What is so of a lane's own log and steps, as functions without work: what each says is its contract.
 
-ghost use Rattle.std.specs.Prelude.{◌≡◌, ℕ, List, false};
+ghost use Rattle.std.specs.Prelude.{◌≡◌, ℕ, List, Some, slice_get};
+ghost use Rattle.std.specs.List.{remove};
+ghost use Rattle.dn_act.specs.Action.{Performs};
+ghost use Rattle.dn_act.specs.declared.actions.Action.TheVariants.{Store};
 ghost use Rattle.dn_log.specs.Log.{Log};
 ghost use Rattle.dn_log.specs.declared.staging.Staged.{Staged};
 ghost use Rattle.dn_beside.specs.Pool.{Pool};
 ghost use Rattle.dn_beside.specs.Lanes.{LeavesOwn};
-ghost use Rattle.dn_reach.specs.OwnLog.{HoldsLog};
-ghost use Rattle.dn_reach.specs.Staging.{MayStageAll, AreFlowing};
+ghost use Rattle.dn_beside.specs.Step.{IsStepBy, IsQuiet, by_lane};
+ghost use Rattle.dn_services.specs.Staged.{GoApart};
+ghost use Rattle.dn_reach.specs.OwnLog.{HoldsLog, IsLaneOf};
+ghost use Rattle.dn_reach.specs.Staging.{MayStage, MayStageAll, AreFlowing};
+ghost use Rattle.dn_reach.specs.Sealing.{flowed};
 
 /// What a lane knows of its log lasts while others act, also while its gate gets the bit.
 pub fn lasts()
@@ -14,4 +20,19 @@ pub fn lasts()
     ensures flowing { (p q : Pool) (n : ℕ) (log : Log) (staged all : List Staged)
         → LeavesOwn n p q → HoldsLog p n log → MayStageAll log all
         → AreFlowing p.words staged all → AreFlowing q.words staged all }
+{}
+
+/// A staged word flows, any of those that wait, also behind a fence: the store stays, and it waits no longer.
+pub fn flow()
+    ensures step { (p : Pool) (n : ℕ) (log : Log) (x : Staged) (word : ℕ) (now : List ℕ)
+        → IsLaneOf p n log → MayStage log x → Performs (Store x.at x.word) word p.words now
+        → IsStepBy (by_lane n) p (flowed p now) }
+    ensures quiet { (p : Pool) (now : List ℕ) → IsQuiet p (flowed p now) }
+    ensures log { (p : Pool) (n : ℕ) (log : Log) (x : Staged) (word : ℕ) (now : List ℕ)
+        → IsLaneOf p n log → MayStage log x → Performs (Store x.at x.word) word p.words now
+        → HoldsLog (flowed p now) n log }
+    ensures flowing { (p : Pool) (n : ℕ) (log : Log) (staged all : List Staged) (i : ℕ) (x : Staged)
+        (word : ℕ) (now : List ℕ) → IsLaneOf p n log → MayStageAll log all → GoApart all
+        → AreFlowing p.words staged all → slice_get staged i ≡ Some x
+        → Performs (Store x.at x.word) word p.words now → AreFlowing now (remove staged i) all }
 {}
