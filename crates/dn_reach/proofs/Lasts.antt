@@ -56,3 +56,7 @@ flowing_lasts p q n log staged all l h may f = record {
   ];
   known = f.known;
 }
+
+-- words that have just been staged are all on their way
+pub all_staged : (words : List ℕ) (all : List Staged) → AreFlowing words all all
+all_staged words all = record { there = λ x c. inl c; known = λ x c. c }

@@ -2,3 +2,4 @@ pub mod Within
 pub mod Lasts
 pub mod OwnSteps
 pub mod Flows
+pub mod Stages

@@ -1,10 +1,13 @@
 //! What is so of a lane's own log and steps, as functions without work: what each says is its contract.
 
-ghost use Rattle.std.specs.Prelude.{◌≡◌, ℕ, List, Some, slice_get};
+ghost use Rattle.std.specs.Prelude.{◌≡◌, ℕ, List, false, Some, slice_get};
 ghost use Rattle.std.specs.List.{remove};
 ghost use Rattle.dn_act.specs.Action.{Performs};
 ghost use Rattle.dn_act.specs.declared.actions.Action.TheVariants.{Store};
-ghost use Rattle.dn_log.specs.Log.{Log};
+ghost use Rattle.dn_record.specs.Grammar.{IsRecord};
+ghost use Rattle.dn_record.specs.Record.{key_of};
+ghost use Rattle.dn_record.specs.declared.records.Record.{Record};
+ghost use Rattle.dn_log.specs.Log.{Log, reach_of, IsFit, IsApart};
 ghost use Rattle.dn_log.specs.declared.staging.Staged.{Staged};
 ghost use Rattle.dn_beside.specs.Pool.{Pool};
 ghost use Rattle.dn_beside.specs.Lanes.{LeavesOwn};
@@ -12,6 +15,7 @@ ghost use Rattle.dn_beside.specs.Step.{IsStepBy, IsQuiet, by_lane};
 ghost use Rattle.dn_services.specs.Staged.{GoApart};
 ghost use Rattle.dn_reach.specs.OwnLog.{HoldsLog, IsLaneOf};
 ghost use Rattle.dn_reach.specs.Staging.{MayStage, MayStageAll, AreFlowing};
+ghost use Rattle.dn_reach.specs.Placing.{plan_for, staged_for};
 ghost use Rattle.dn_reach.specs.Sealing.{flowed};
 
 /// What a lane knows of its log lasts while others act, also while its gate gets the bit.
@@ -20,6 +24,16 @@ pub fn lasts()
     ensures flowing { (p q : Pool) (n : ℕ) (log : Log) (staged all : List Staged)
         → LeavesOwn n p q → HoldsLog p n log → MayStageAll log all
         → AreFlowing p.words staged all → AreFlowing q.words staged all }
+{}
+
+/// The words that are staged for a record that has room are such as the lane may stage, go to words of the pool of their
+/// own, and are all on their way at first.
+pub fn staged()
+    ensures may { (log : Log) (r : Record) → IsRecord r → (plan_for log r).need_segment ≡ false
+        → MayStageAll log (staged_for log r) }
+    ensures apart { (log : Log) (r : Record) (k : ℕ) → IsFit log → IsApart (reach_of log) → IsRecord r
+        → key_of r ≡ Some k → (plan_for log r).need_segment ≡ false → GoApart (staged_for log r) }
+    ensures waiting { (words : List ℕ) (all : List Staged) → AreFlowing words all all }
 {}
 
 /// A staged word flows, any of those that wait, also behind a fence: the store stays, and it waits no longer.
