@@ -121,7 +121,7 @@ not_sealed p n log x m i f l lt may e = elim (cases_eq m n) [
   own same (inr w) = (let c = (f.whole.represents.reads.logs_are m l).covered (i * 1024) (omega (arith, lt, ap (λ g. g.len) (f.whole.represents.table.gates m l.below))) in
       absurd (omega (arith, e, w.at_is, word_of-past log w.offset, l.below, c.0)))
 
-later_same : (p : Pool) → IsLater p.owners p.owners
+pub later_same : (p : Pool) → IsLater p.owners p.owners
 later_same p = record {
   logs = λ n. ([], sym (append-nil ((store_in p).logs n)));
   gates = λ n. risen_same ((store_in p).gates n);

@@ -3,3 +3,4 @@ pub mod Lasts
 pub mod OwnSteps
 pub mod Flows
 pub mod Stages
+pub mod Claims
