@@ -4,3 +4,4 @@ pub mod OwnSteps
 pub mod Flows
 pub mod Stages
 pub mod Claims
+pub mod Gates

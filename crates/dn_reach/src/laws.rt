@@ -1,10 +1,11 @@
 //! What is so of a lane's own log and steps, as functions without work: what each says is its contract.
 
-ghost use Rattle.std.specs.Prelude.{◌≡◌, ◌<◌, ◌-◌, ◌^◌, ℕ, List, false, Some, None, length, slice_get};
+ghost use Rattle.std.specs.Prelude.{◌≡◌, ◌≢◌, ◌<◌, ◌-◌, ◌^◌, ℕ, List, false, Some, None, length, slice_get};
 ghost use Rattle.std.specs.List.{remove};
 ghost use Rattle.dn_act.specs.Action.{Performs};
-ghost use Rattle.dn_act.specs.declared.actions.Action.TheVariants.{Store, Add};
+ghost use Rattle.dn_act.specs.declared.actions.Action.TheVariants.{Store, Cas, Add};
 ghost use Rattle.dn_word.specs.Regions.{segment_counter_at};
+ghost use Rattle.dn_word.specs.Gate.{gate_of};
 ghost use Rattle.dn_record.specs.Grammar.{IsRecord};
 ghost use Rattle.dn_record.specs.Record.{key_of};
 ghost use Rattle.dn_record.specs.declared.records.Record.{Record};
@@ -18,7 +19,8 @@ ghost use Rattle.dn_services.specs.Staged.{GoApart};
 ghost use Rattle.dn_reach.specs.OwnLog.{HoldsLog, IsLaneOf};
 ghost use Rattle.dn_reach.specs.Staging.{MayStage, MayStageAll, AreFlowing};
 ghost use Rattle.dn_reach.specs.Placing.{plan_for, staged_for};
-ghost use Rattle.dn_reach.specs.Sealing.{flowed, claims, misses};
+ghost use Rattle.dn_reach.specs.Exchange.{open_gate, IsExchanged};
+ghost use Rattle.dn_reach.specs.Sealing.{flowed, claims, misses, raised};
 
 /// What a lane knows of its log lasts while others act, also while its gate gets the bit.
 pub fn lasts()
@@ -71,4 +73,23 @@ pub fn claim()
     ensures miss_quiet { (p : Pool) (now : List ℕ) → IsQuiet p (misses p now) }
     ensures miss_log { (p : Pool) (n : ℕ) (log : Log) (word : ℕ) (now : List ℕ) → IsLaneOf p n log
         → Performs (Add segment_counter_at 1) word p.words now → HoldsLog (misses p now) n log }
+{}
+
+/// An exchange that finds another word leaves all words as they are.
+pub fn missed()
+    ensures { (words now : List ℕ) (at old new word : ℕ) → Performs (Cas at old new) word words now
+        → word ≢ old → now ≡ words }
+{}
+
+/// A lane raises the stamp of its gate, which keeps its length.
+pub fn raise()
+    ensures step { (p : Pool) (n old stamp : ℕ) (now : List ℕ) → IsWhole p → IsLane n
+        → IsExchanged p n old stamp (gate_of old).len now
+        → IsStepBy (by_lane n) p (raised p n old stamp now) }
+    ensures quiet { (p : Pool) (n old stamp : ℕ) (now : List ℕ) → IsQuiet p (raised p n old stamp now) }
+    ensures log { (p : Pool) (n : ℕ) (log : Log) (old stamp : ℕ) (now : List ℕ) → IsLaneOf p n log
+        → IsExchanged p n old stamp (gate_of old).len now
+        → HoldsLog (raised p n old stamp now) n log }
+    ensures gate { (p : Pool) (n old stamp : ℕ) (now : List ℕ)
+        → (store_in (raised p n old stamp now)).gates n ≡ open_gate stamp (gate_of old).len }
 {}
