@@ -1,0 +1,6 @@
+pub mod Directory
+pub mod OwnLog
+pub mod Staging
+pub mod Placing
+pub mod Exchange
+pub mod Sealing
