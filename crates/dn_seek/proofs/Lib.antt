@@ -1,0 +1,5 @@
+pub mod Spelled
+pub mod Values
+pub mod Fetches
+pub mod Contents
+pub mod Lasting
