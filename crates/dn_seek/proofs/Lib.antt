@@ -3,3 +3,6 @@ pub mod Values
 pub mod Fetches
 pub mod Contents
 pub mod Lasting
+pub mod Logs
+pub mod Seeks
+pub mod Loads

@@ -1,3 +1,6 @@
 pub mod Sealed
 pub mod Wanted
 pub mod Fetching
+pub mod Located
+pub mod Seeking
+pub mod Loading
