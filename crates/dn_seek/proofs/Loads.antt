@@ -1,16 +1,14 @@
-use Rattle.std.proofs.Common.{ℕ, ◌+◌, ◌≡◌, List, [], ◌∷◌, length, Option, Some, None, refl, sym, ◌∙◌, ap, subst}
+use Rattle.std.proofs.Common.{ℕ, ◌+◌, ◌≡◌, List, length, Option, Some, None, refl, ◌∙◌, subst}
 use Rattle.std.proofs.lemmas.List.{set-get_or}
 use Rattle.dn_word.specs.declared.packed.place.Ref.{Ref}
 use Rattle.dn_act.specs.Action.{Performs}
 use Rattle.dn_index.specs.Footprint.{Finds, purpose_at, StaysOn}
 use Rattle.dn_index.specs.Walk.{Walking, next_at as walk_next_at, place_at, walk_step, after_of, turn_of}
-use Rattle.dn_index.specs.declared.places.Errand.{Errand}
 use Rattle.dn_index.specs.declared.places.Errand.TheVariants as errand
 use Rattle.dn_index.specs.declared.places.Step.{Step}
 use Rattle.dn_index.specs.declared.places.Step.TheVariants.{On, End}
 use Rattle.dn_index.specs.declared.places.WalkPlace.{WalkPlace}
 use Rattle.dn_index.specs.declared.places.WalkPlace.TheVariants as walk
-use Rattle.dn_index.specs.declared.places.WalkTurn.{WalkTurn}
 use Rattle.dn_index.specs.declared.places.WalkTurn.TheVariants as turned
 use Rattle.dn_index.proofs.PurposeLaws.{purpose_stays}
 use Rattle.dn_model.specs.Regions.{bucket_at}

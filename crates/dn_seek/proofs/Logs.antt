@@ -1,8 +1,8 @@
-use Rattle.std.proofs.Common.{ℕ, ◌+◌, ◌<◌, ◌≤◌, ◌≡◌, ◌≢◌, inl, inr, Bool, true, false, List, [], ◌∷◌, ◌++◌, Contains, Option, Some, None, nat_eq, if◌then◌else◌, refl, sym, ◌∙◌, ap, subst, arith}
+use Rattle.std.proofs.Common.{ℕ, ◌+◌, ◌<◌, ◌≤◌, ◌≡◌, inl, inr, Bool, true, false, List, [], ◌∷◌, Contains, Some, None, nat_eq, if◌then◌else◌, ◌∙◌, ap, arith}
 use Rattle.std.proofs.lemmas.Bool.Decides.{nat_tests}
 use Rattle.dn_record.specs.declared.records.Record.{Record}
 use Rattle.dn_model.specs.declared.logs.Placed.{Placed}
-use Rattle.dn_model.specs.Held.{is_authority, entry_at, unmerged}
+use Rattle.dn_model.specs.Held.{entry_at, unmerged}
 use Rattle.dn_owners.specs.Sound.{Rise}
 use Rattle.dn_owners.proofs.Ats.{none_some, same_some}
 use Rattle.dn_owners.proofs.Last.{found_none, none_found}

@@ -1,27 +1,26 @@
-use Rattle.std.proofs.Common.{ℕ, ◌<◌, ◌≡◌, inl, inr, Bool, true, false, List, Option, Some, None, refl, sym, ◌∙◌, ap, subst, nat_eq, if◌then◌else◌, arith}
+use Rattle.std.proofs.Common.{ℕ, ◌<◌, ◌≡◌, inl, inr, Bool, true, false, List, Option, Some, None, refl, sym, ◌∙◌, ap, subst, if◌then◌else◌, arith}
 use Rattle.std.proofs.lemmas.Bool.{false≢true}
 use Rattle.std.proofs.lemmas.Bool.Decides.{nat_tests}
 use Rattle.dn_word.specs.Ref.{ref_of}
 use Rattle.dn_word.specs.declared.packed.place.Ref.{Ref}
-use Rattle.dn_word.specs.declared.packed.deed.Deed.{Deed}
 use Rattle.dn_act.specs.Action.{Performs}
 use Rattle.dn_record.specs.Record.{value_of}
 use Rattle.dn_record.specs.declared.records.Record.{Record}
 use Rattle.dn_record.specs.declared.records.Record.TheVariants.{Put, Delete, Share, Unshare, Loose, LooseDelete, Pad}
 use Rattle.dn_model.specs.Regions.{slot_of}
 use Rattle.dn_model.specs.OneLog.{is_plain}
-use Rattle.dn_model.specs.Held.{Found, Says, Astray, is_authority, unmerged, record_at, led_to, indexed, authority_by, entry_at, held_from}
+use Rattle.dn_model.specs.Held.{Says, Astray, is_authority, unmerged, record_at, led_to, indexed, authority_by, entry_at, held_from}
 use Rattle.dn_index.specs.Walk.{Walking, walk_next, walk_step, after_of, turn_of}
 use Rattle.dn_index.specs.declared.places.Step.{Step}
 use Rattle.dn_index.specs.declared.places.Step.TheVariants.{On, End}
 use Rattle.dn_index.specs.declared.places.WalkTurn.TheVariants as turned
-use Rattle.dn_locate.specs.Fetch.{Fetching, started as fetch_started, fetch_next, fetch_after, fetch_turn}
+use Rattle.dn_locate.specs.Fetch.{Fetching, started as fetch_started, fetch_after, fetch_turn}
 use Rattle.dn_locate.specs.declared.fetches.FetchTurn.{FetchTurn}
 use Rattle.dn_locate.specs.declared.fetches.FetchTurn.TheVariants as loaded
 use Rattle.dn_locate.specs.declared.fetches.Wish.{Wish}
 use Rattle.dn_plan.specs.declared.phases.Way.{Way}
-use Rattle.dn_plan.specs.declared.phases.Way.TheVariants.{Pending, Index}
-use Rattle.dn_find.specs.Find.{Sought, find_next, walked_by, fetched_by, found_of}
+use Rattle.dn_plan.specs.declared.phases.Way.TheVariants.{Index}
+use Rattle.dn_find.specs.Find.{find_next, walked_by, fetched_by, found_of}
 use Rattle.dn_find.specs.declared.finds.Find.{Find}
 use Rattle.dn_find.specs.declared.finds.Find.TheVariants.{Walk, Fetch}
 use Rattle.dn_store.specs.State.{StoreState}
@@ -35,11 +34,10 @@ use Rattle.dn_owners.proofs.Logs.{ordered}
 use Rattle.dn_beside.specs.Pool.{Pool, store_in, IsWhole}
 use Rattle.dn_beside.specs.Grown.{Grows}
 use Rattle.dn_beside.specs.Lanes.{LeavesKey, LeavesLane}
-use Rattle.dn_walks.specs.Finding.{KnowsFind, AnswersFind, KnowsFound}
+use Rattle.dn_walks.specs.Finding.{KnowsFind, KnowsFound}
 use Rattle.dn_walks.proofs.Finding.{find_steps, find_loads}
 use Rattle.dn_walks.proofs.Lasts.{find_lasts}
-use Rattle.dn_seek.specs.Sealed.{IsSealed}
-use Rattle.dn_seek.specs.Fetching.{KnowsFetch, Brings, Fetched}
+use Rattle.dn_seek.specs.Fetching.{Fetched}
 use Rattle.dn_seek.specs.Located.{IsLocatedAs}
 use Rattle.dn_seek.specs.Seeking.{KnowsWalk, KnowsRecord, KnowsSeek, KnowsSought}
 use Rattle.dn_seek.proofs.Contents.{fetch_goes}
@@ -122,8 +120,7 @@ walk_goes : (p : Pool) (n key : ℕ) (wish : Wish) (f : Fetching) (w : Walking) 
 walk_goes p n key wish f w word now h pos k a =
     let finds : KnowsFind p.words p.chains w.key w.place = subst (λ x. KnowsFind p.words p.chains x w.place) (sym k.key_is) k.finds in
     let some : 0 < w.key = omega (arith, pos, k.key_is) in
-    let found : KnowsFound p.words p.chains (store_in p).index w.key (walk_step w word) = find_steps p.words p.chains (store_in p) w.key w.place word h.represents some finds a.answer in
-    (
+    let found : KnowsFound p.words p.chains (store_in p).index w.key (walk_step w word) = find_steps p.words p.chains (store_in p) w.key w.place word h.represents some finds a.answer in (
       find_loads p.words now p.chains w.key w.place word finds a,
       walked_goes p n key wish f w (walk_step w word) h k (subst (λ x. KnowsFound p.words p.chains (store_in p).index x (walk_step w word)) k.key_is found),
     )

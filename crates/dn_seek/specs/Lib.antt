@@ -1,5 +1,6 @@
 pub mod Sealed
 pub mod Wanted
+pub mod Values
 pub mod Fetching
 pub mod Located
 pub mod Seeking

@@ -4,10 +4,12 @@ ghost use Rattle.std.specs.Prelude.{◌≡◌, ◌<◌, ℕ, Bool, true, false, 
 ghost use Rattle.dn_word.specs.declared.packed.place.Ref.{Ref};
 ghost use Rattle.dn_act.specs.Action.{Performs};
 ghost use Rattle.dn_record.specs.Record.{value_of};
+ghost use Rattle.dn_record.specs.declared.heads.Head.{Head};
 ghost use Rattle.dn_record.specs.declared.records.Record.{Record};
 ghost use Rattle.dn_model.specs.Held.{Says};
 ghost use Rattle.dn_model.specs.Regions.{slot_of};
 ghost use Rattle.dn_locate.specs.declared.fetches.Wish.{Wish};
+ghost use Rattle.dn_locate.specs.declared.fetches.Wish.TheVariants.{Value};
 ghost use Rattle.dn_locate.specs.Fetch.{Fetching, started, fetch_next, fetch_after, fetch_turn};
 ghost use Rattle.dn_plan.specs.declared.phases.Way.{Way};
 ghost use Rattle.dn_find.specs.Find.{started as find_started, find_next, found_of};
@@ -20,6 +22,7 @@ ghost use Rattle.dn_beside.specs.Pool.{Pool, store_in, IsWhole};
 ghost use Rattle.dn_beside.specs.Grown.{Grows};
 ghost use Rattle.dn_beside.specs.Lanes.{LeavesLane};
 ghost use Rattle.dn_seek.specs.Sealed.{IsSealed};
+ghost use Rattle.dn_seek.specs.Values.{ReadsValues, told_by};
 ghost use Rattle.dn_seek.specs.Fetching.{KnowsFetch, Fetched};
 ghost use Rattle.dn_seek.specs.Located.{IsLocatedAs};
 ghost use Rattle.dn_seek.specs.Seeking.{KnowsSeek, KnowsSought};
@@ -58,18 +61,24 @@ pub fn seek()
         → Performs (find_next f find) word p.words now
         → (now ≡ p.words) × KnowsSought p n key wish (found_of f key wish find word).fetch
         (found_of f key wish find word).found }
-    ensures lasts { (p q : Pool) (n key : ℕ) (wish : Wish) (f : Fetching) (find : FindAt) (l : Look)
-        → IsWhole p → IsWhole q → Grows p q → LeavesLane n p q → 0 < key
+    ensures lasts { (p q : Pool) (n key : ℕ) (wish : Wish) (f : Fetching) (find : FindAt)
+        (l : Look) → IsWhole p → IsWhole q → Grows p q → LeavesLane n p q → 0 < key
         → (p.owners.knows n).look ≡ Some l → slot_of key ≡ l.slot
         → ((store_in q).gates n).fenced ≡ false
         → KnowsSeek p n key wish f find → KnowsSeek q n key wish f find }
 {}
 
-/// What was located says what is held at the key, and lasts too.
+/// What was located says what is held at the key, and lasts too. Where the wish was for the value, whoever reads it from
+/// the words that were brought tells what is held.
 pub fn located()
     ensures held { (p : Pool) (key : ℕ) (wish : Wish) (f : Fetching) (way : Way) (fetched : Bool)
         (a : IsLocatedAs p key wish f way fetched)
         → holds (store_in p) key ≡ Says (value_of a.of) }
+    ensures told { (value_in : List ℕ → Option (List ℕ))
+        (behind : Option Head → List ℕ → Option (List ℕ)) (p : Pool) (key : ℕ)
+        (f : Fetching) (way : Way) (fetched : Bool) → ReadsValues value_in behind → IsWhole p
+        → IsLocatedAs p key Value f way fetched
+        → holds (store_in p) key ≡ Says (told_by value_in f.words fetched) }
     ensures lasts { (p q : Pool) (n key : ℕ) (wish : Wish) (f : Fetching) (way : Way)
         (fetched : Bool) (l : Look) → Grows p q → LeavesLane n p q → 0 < key
         → (p.owners.knows n).look ≡ Some l → slot_of key ≡ l.slot
