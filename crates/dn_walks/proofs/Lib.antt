@@ -1,0 +1,3 @@
+pub mod Trails
+pub mod Lasts
+pub mod Finding
