@@ -3,8 +3,6 @@ use Rattle.dn_word.specs.Gate.{gate_of}
 use Rattle.dn_word.specs.Deed.{deed_of}
 use Rattle.dn_word.specs.Need.{raised_of}
 use Rattle.dn_record.specs.Grammar.{IsValue}
-use Rattle.dn_record.specs.declared.records.Record.{Record}
-use Rattle.dn_record.specs.declared.records.Record.TheVariants as entry
 use Rattle.dn_hist.specs.Calls.{key_of}
 use Rattle.dn_hist.specs.declared.calls.Call.{Call}
 use Rattle.dn_hist.specs.declared.calls.Call.TheVariants.{Get, Put, Delete}
@@ -24,12 +22,6 @@ abbrev pub IsCall : Call → Type 0
 IsCall (Get key) = key ≢ 0
 IsCall (Put key value) = (key ≢ 0) × IsValue value
 IsCall (Delete key) = key ≢ 0
-
--- the record that a put or delete seals; a get seals none
-abbrev pub record_of : Call → Record
-record_of (Get key) = entry.Delete key
-record_of (Put key value) = entry.Put key value
-record_of (Delete key) = entry.Delete key
 
 abbrev pub IsCalled : Asked → Type 0
 IsCalled asked.Nothing = ⊥

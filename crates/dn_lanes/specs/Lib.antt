@@ -1,5 +1,4 @@
 pub mod Calls
 pub mod Phases
 pub mod Lane
-pub mod Joined
 pub mod Stepped

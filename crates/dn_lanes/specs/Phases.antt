@@ -51,7 +51,8 @@ use Rattle.dn_reach.specs.Placing.{plan_for, staged_for}
 use Rattle.dn_reach.specs.Staging.{MayStageAll, AreFlowing}
 use Rattle.dn_seek.specs.Loading.{OnlyLoads}
 use Rattle.dn_seek.specs.Seeking.{KnowsSeek}
-use Rattle.dn_lanes.specs.Calls.{record_of, IsCalled, key_in, HasLook, HasRaised}
+use Rattle.dn_receipts.specs.Sealing.{record_of}
+use Rattle.dn_lanes.specs.Calls.{IsCalled, key_in, HasLook, HasRaised}
 
 -- What a lane knows at each phase of a call that a slot's owner makes, and of the tasks release and trim. Keys that
 -- lanes share have no phases yet.

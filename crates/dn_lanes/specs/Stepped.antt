@@ -16,7 +16,7 @@ use Rattle.dn_lane2.specs.declared.modes.Mode.{Mode}
 use Rattle.dn_lane2.specs.declared.modes.Mode.TheVariants as mode
 use Rattle.dn_beside.specs.Pool.{Pool, store_in}
 use Rattle.dn_beside.specs.Step.{IsStepBy, by_lane}
-use Rattle.dn_lanes.specs.Joined.{Joins}
+use Rattle.dn_receipts.specs.Joined.{Joins}
 use Rattle.dn_lanes.specs.Lane.{IsLaneAt}
 
 -- What comes of an action of a lane.

@@ -10,7 +10,7 @@ use Rattle.dn_model.specs.Held.{Says, record_at}
 use Rattle.dn_store.specs.Holding.{holds}
 use Rattle.dn_beside.specs.Pool.{Pool, store_in}
 use Rattle.dn_beside.specs.Step.{IsQuiet}
-use Rattle.dn_lanes.specs.Calls.{record_of}
+use Rattle.dn_receipts.specs.Sealing.{record_of}
 
 -- What becomes of keys by a step at which a receipt joins.
 
