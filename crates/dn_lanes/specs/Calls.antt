@@ -12,8 +12,8 @@ use Rattle.dn_plan.specs.declared.phases.Raised.{Raised}
 use Rattle.dn_lane2.specs.Asked.{brief_of, call_in}
 use Rattle.dn_lane2.specs.declared.asked.Asked.{Asked}
 use Rattle.dn_lane2.specs.declared.asked.Asked.TheVariants as asked
-use Rattle.dn_beside.specs.Pool.{Pool}
-use Rattle.dn_learnt.specs.Heeding.{HasLooked}
+use Rattle.dn_owners.specs.Known.{Look}
+use Rattle.dn_learnt.specs.Heeding.{look_by}
 
 -- The call that a lane is asked.
 
@@ -31,13 +31,13 @@ IsCalled asked.Task = ⊥
 abbrev pub key_in : Asked → ℕ
 key_in a = key_of (call_in a)
 
--- it has looked at the slot of its key, and found this deed
-pub record HasLook (p : Pool) (n : ℕ) (a : Asked) (look : ℕ) : Type 0 where
+-- By what the lane has looked at: the slot of the call's key, where it found this deed.
+pub record HasLook (seen : Option Look) (a : Asked) (deed : ℕ) : Type 0 where
   pub called : IsCalled a
-  pub looked : HasLooked p n (slot_of (key_in a)) look
+  pub looked : seen ≡ Some (look_by (slot_of (key_in a)) deed)
 
--- and has loaded a gate without the bit, by which it has its position
-pub record HasRaised (p : Pool) (n : ℕ) (a : Asked) (r : Raised) : Type 0 where
-  pub look : HasLook p n a r.look
+-- and it has loaded a gate without the bit, by which it has its position
+pub record HasRaised (seen : Option Look) (n : ℕ) (a : Asked) (r : Raised) : Type 0 where
+  pub look : HasLook seen a r.look
   pub clear : (gate_of r.gate).fenced ≡ false
   pub rule : raised_of (need_of (brief_of n a) r.look) (gate_of r.gate).stamp ≡ Some r.to

@@ -11,5 +11,5 @@ pub record IsLaneAt (n : ℕ) (l : LaneState) (p : Pool) : Type 0 where
   pub log : HoldsLog p n l.base.known.log
   pub learns : Learns p n l.base.known
   pub fetch : l.base.fetch.segments ≡ (store_in p).pool
-  pub at : IsAt p n l.base l.asked l.mode
+  pub at : IsAt (p.owners.knows n).look n l.base l.asked l.mode
   pub knows : ((store_in p).gates n).fenced ≡ false → Knows p n l.base l.asked l.mode

@@ -10,6 +10,7 @@ use Rattle.dn_model.specs.Held.{is_authority}
 use Rattle.dn_model.specs.OneLog.{is_plain}
 use Rattle.dn_model.specs.Regions.{gate_at}
 use Rattle.dn_store.specs.Holding.{authority_in}
+use Rattle.dn_owners.specs.Known.{Look}
 use Rattle.dn_owners.specs.Sound.{Agrees}
 use Rattle.dn_find.specs.declared.finds.Find.{Find}
 use Rattle.dn_log.specs.declared.claims.Claim.{Claim}
@@ -58,61 +59,61 @@ use Rattle.dn_lanes.specs.Calls.{IsCalled, key_in, HasLook, HasRaised}
 -- lanes share have no phases yet.
 
 -- ---- Always, also behind a fence.
--- it has looked at nothing
-abbrev pub LooksAtNothing : Pool → ℕ → Type 0
-LooksAtNothing p n = (p.owners.knows n).look ≡ None
+-- By what it has looked at in its call or task. It has looked at nothing:
+abbrev pub LooksAtNothing : Option Look → Type 0
+LooksAtNothing seen = seen ≡ None
 
-abbrev pub IsCalling : Pool → ℕ → Base → Asked → ActPhase → Type 0
-IsCalling p n g a phase.Look = IsCalled a × LooksAtNothing p n
-IsCalling p n g a (phase.Gate look located) = HasLook p n a look
-IsCalling p n g a (phase.Raise r) = HasRaised p n a r × IsRead (brief_of n a).kind
+abbrev pub IsCalling : Option Look → ℕ → Asked → ActPhase → Type 0
+IsCalling seen n a phase.Look = IsCalled a × LooksAtNothing seen
+IsCalling seen n a (phase.Gate look located) = HasLook seen a look
+IsCalling seen n a (phase.Raise r) = HasRaised seen n a r × IsRead (brief_of n a).kind
 
-abbrev pub IsTending : Pool → ℕ → TendAct → Type 0
-IsTending p n (at.Deed slot) = (slot < 64) × LooksAtNothing p n
-IsTending p n (at.GiveUp slot deed) = (slot < 64) × LooksAtNothing p n × (asks_to_leave n deed ≡ true)
-IsTending p n at.Mark = LooksAtNothing p n
-IsTending p n (at.ShareLook key) = ⊥
-IsTending p n (at.ShareGate key look place) = ⊥
-IsTending p n (at.Count share) = ⊥
-IsTending p n (at.Claim share) = ⊥
-IsTending p n (at.Name share cell) = ⊥
-IsTending p n (at.Open share cell) = ⊥
-IsTending p n (at.UnshareLook key) = ⊥
-IsTending p n (at.UnshareGate unshare) = ⊥
-IsTending p n (at.Cell unshare gate) = ⊥
-IsTending p n (at.Close unshare gate seen stamp) = ⊥
+abbrev pub IsTending : Option Look → ℕ → TendAct → Type 0
+IsTending seen n (at.Deed slot) = (slot < 64) × LooksAtNothing seen
+IsTending seen n (at.GiveUp slot deed) = (slot < 64) × LooksAtNothing seen × (asks_to_leave n deed ≡ true)
+IsTending seen n at.Mark = LooksAtNothing seen
+IsTending seen n (at.ShareLook key) = ⊥
+IsTending seen n (at.ShareGate key look place) = ⊥
+IsTending seen n (at.Count share) = ⊥
+IsTending seen n (at.Claim share) = ⊥
+IsTending seen n (at.Name share cell) = ⊥
+IsTending seen n (at.Open share cell) = ⊥
+IsTending seen n (at.UnshareLook key) = ⊥
+IsTending seen n (at.UnshareGate unshare) = ⊥
+IsTending seen n (at.Cell unshare gate) = ⊥
+IsTending seen n (at.Close unshare gate found stamp) = ⊥
 
-abbrev pub IsActing : Pool → ℕ → Base → Asked → Act → Type 0
-IsActing p n g a (act.Call phase) = IsCalling p n g a phase
-IsActing p n g a (act.Task phase) = IsTending p n phase
+abbrev pub IsActing : Option Look → ℕ → Asked → Act → Type 0
+IsActing seen n a (act.Call phase) = IsCalling seen n a phase
+IsActing seen n a (act.Task phase) = IsTending seen n phase
 
-abbrev pub IsFinding : Pool → ℕ → Asked → Locate → Find → Type 0
-IsFinding p n a (locate.Call (Owner look)) find = HasLook p n a look × OnlyLoads find
-IsFinding p n a (locate.Task phase) find = ⊥
+abbrev pub IsFinding : Option Look → Asked → Locate → Find → Type 0
+IsFinding seen a (locate.Call (Owner look)) find = HasLook seen a look × OnlyLoads find
+IsFinding seen a (locate.Task phase) find = ⊥
 
 -- a put or delete claims a segment for its record
-pub record IsClaiming (p : Pool) (n : ℕ) (g : Base) (a : Asked) (r : Raised) (c : Claim) : Type 0 where
-  pub raised : HasRaised p n a r
+pub record IsClaiming (seen : Option Look) (n : ℕ) (g : Base) (a : Asked) (r : Raised) (c : Claim) : Type 0 where
+  pub raised : HasRaised seen n a r
   pub write : IsWrite (brief_of n a).kind
   pub needs : (plan_for g.known.log (record_of (call_in a))).need_segment ≡ true
   pub claims : IsClaimFor g.known.log c
 
 -- or its record has room, and what waits to flow may do so
-pub record IsSealing (p : Pool) (n : ℕ) (g : Base) (a : Asked) (r : Raised) (s : Seal) : Type 0 where
-  pub raised : HasRaised p n a r
+pub record IsSealing (seen : Option Look) (n : ℕ) (g : Base) (a : Asked) (r : Raised) (s : Seal) : Type 0 where
+  pub raised : HasRaised seen n a r
   pub write : IsWrite (brief_of n a).kind
   pub is : s ≡ sealing_by a (record_in (seal.Call (sealing.Write r)))
   pub room : (plan_for g.known.log (record_of (call_in a))).need_segment ≡ false
   pub stages : MayStageAll g.known.log g.staging
 
-abbrev pub IsAt : Pool → ℕ → Base → Asked → Mode → Type 0
-IsAt p n g a mode.Idle = (g.staging ≡ []) × LooksAtNothing p n
-IsAt p n g a (mode.Acting wait) = (g.staging ≡ []) × IsActing p n g a wait
-IsAt p n g a (mode.Finding wait find) = (g.staging ≡ []) × IsFinding p n a wait find
-IsAt p n g a (mode.Claiming (room.Call (rooming.Write r)) claim) = (g.staging ≡ []) × IsClaiming p n g a r claim
-IsAt p n g a (mode.Claiming (room.Task phase) claim) = ⊥
-IsAt p n g a (mode.Sealing (seal.Call (sealing.Write r)) s) = IsSealing p n g a r s
-IsAt p n g a (mode.Sealing (seal.Task phase) s) = ⊥
+abbrev pub IsAt : Option Look → ℕ → Base → Asked → Mode → Type 0
+IsAt seen n g a mode.Idle = (g.staging ≡ []) × LooksAtNothing seen
+IsAt seen n g a (mode.Acting wait) = (g.staging ≡ []) × IsActing seen n a wait
+IsAt seen n g a (mode.Finding wait find) = (g.staging ≡ []) × IsFinding seen a wait find
+IsAt seen n g a (mode.Claiming (room.Call (rooming.Write r)) claim) = (g.staging ≡ []) × IsClaiming seen n g a r claim
+IsAt seen n g a (mode.Claiming (room.Task phase) claim) = ⊥
+IsAt seen n g a (mode.Sealing (seal.Call (sealing.Write r)) s) = IsSealing seen n g a r s
+IsAt seen n g a (mode.Sealing (seal.Task phase) s) = ⊥
 
 -- ---- While its gate has no bit.
 -- what a get will reply is what is held at its key

@@ -1,5 +1,5 @@
 use Rattle.std.specs.Prelude.{◌≡◌, ◌⊎◌, ◌<◌, ◌^◌, ◌-◌, ℕ, ◌+◌, ◌≤◌, List, Option, Some, None}
-use Rattle.dn_hist.specs.Receipt.{IsBefore}
+use Rattle.dn_hist.specs.CallersOrder.{IsBefore}
 use Rattle.dn_hist.specs.declared.receipts.Receipt.{Receipt}
 use Rattle.dn_hist.specs.declared.receipts.SessionView.{SessionView}
 use Rattle.dn_ask.specs.declared.asks.FindRoom.{FindRoom}

@@ -1,7 +1,7 @@
 //! What is so of a lane among others, as functions without work: what each says is its contract.
 
 ghost use Rattle.std.specs.Prelude.{◌≡◌, ◌<◌, ◌^◌, ◌-◌, ℕ, Some, List};
-ghost use Rattle.dn_act.specs.Words.{Performs};
+ghost use Rattle.dn_act.specs.Action.{Performs};
 ghost use Rattle.dn_act.specs.declared.actions.Action.{Action};
 ghost use Rattle.dn_model.specs.Regions.{IsLane};
 ghost use Rattle.dn_lane2.specs.State.{LaneState};
