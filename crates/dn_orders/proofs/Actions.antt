@@ -40,6 +40,7 @@ same_words words at = sym (set-get_or words at 0)
 pub same_step : (p : Pool) (now : List ℕ) → IsWhole p → p.words ≡ now → IsOrderStep p p now
 same_step p now h e = record {
   words = e;
+  chains = refl;
   step = learning_step by_monitor p p.owners refl h (λ k. omega arith) (λ n d. refl) (λ f. refl);
   quiet = quiet_still p p.owners refl (λ k. refl);
   change = Same refl;
@@ -54,6 +55,7 @@ watch_step p w now h g e =
     let o : Owners = happens p.owners (Watches w) in
     record {
       words = e;
+      chains = refl;
       step = learning_step by_monitor p o refl (record { represents = h.represents; sound = kept p.owners (Watches w) (in_order p h) h.sound g; deeds = h.deeds; plain = h.plain })
           (λ k. omega arith) (λ n d. refl) (λ f. absurd (cc f));
       quiet = quiet_still p o refl (λ k. refl);
@@ -74,6 +76,7 @@ fence_step p n h l =
     let is : gate_of new ≡ record (s.gates n) { fenced = true } = gate_barred (word_at p.words (gate_at n)) ∙ ap (λ (g : Gate). let x : Gate = record g { fenced = true } in x) (h.represents.table.gates n l.below) in
     record {
       words = refl;
+      chains = refl;
       step = bit_step by_monitor p n new h l (ap (λ (g : Gate). g.fenced) is, ap (λ (g : Gate). g.stamp) is, ap (λ (g : Gate). g.len) is);
       quiet = record { held = λ k v pos held. held; promised = λ k. refl };
       change = Fences n l (ap (gated s n) is);
@@ -125,6 +128,7 @@ leave_step p t deed h lt owned was =
     let P : ℕ → Type 0 = λ x. IsLane x in
     record {
       words = refl;
+      chains = refl;
       step = deed_step by_monitor p (Leave t d) t (leaving_word deed) h (record {
         slot = lt;
         given = g;
@@ -212,6 +216,7 @@ grant_step p w deed to gate h lt may was watch merged stamp =
     } in
     record {
       words = refl;
+      chains = refl;
       step = deed_step by_monitor p (Grant w d) w.slot new h (record {
         slot = lt;
         given = g;
@@ -240,6 +245,7 @@ adopt_step p t deed to h lt may was nobody =
     let g : IsAdoption p.owners t d = record { slot = lt; was = ap (λ (x : Deed). x.state) was ∙ nobody; new = fresh } in
     record {
       words = refl;
+      chains = refl;
       step = deed_step by_monitor p (Adopt t d) t new h (record {
         slot = lt;
         given = g;

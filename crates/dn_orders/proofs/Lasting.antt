@@ -1,4 +1,5 @@
 use Rattle.std.proofs.Common.{ℕ, ◌<◌, ◌≡◌, inl, inr, List, Some, None, refl, sym, ◌∙◌, ap, arith}
+use Rattle.std.proofs.lemmas.Bool.{false≢true}
 use Rattle.dn_word.specs.Deed.{deed_of}
 use Rattle.dn_word.specs.declared.packed.deed.Deed.{Deed}
 use Rattle.dn_monitor.specs.Monitor.{Monitoring, IsPlace, IsErrand, slot_in, begun, IsOrder}
@@ -44,10 +45,11 @@ found_lasts p q (at.Grant errand deed (Some gate)) i h g o = record { watch = o.
 pub lasts : (p q : Pool) (m : Monitoring) → KnowsOrder p m → Grows p q → LeavesOrder p q → KnowsOrder q m
 lasts p q m h g o = record { heirs = h.heirs; place = h.place; found = found_lasts p q m.place h.place h.found g o }
 
--- an order begins, with nothing found
-pub begins : (p : Pool) (o : Order) (heirs : List ℕ) → IsOrder o → AreLanes heirs → ((segments : ℕ) → o ≡ order.Format segments → ⊥) → KnowsOrder p (begun o heirs)
-begins p (order.Format segments) heirs i l f = absurd (f segments refl)
-begins p (order.Look slot) heirs i l f = record { heirs = l; place = i; found = tt }
-begins p (order.Move slot to) heirs i l f = record { heirs = l; place = i; found = tt }
-begins p (order.Fence lane) heirs i l f = record { heirs = l; place = i; found = tt }
-begins p (order.Takeover lane) heirs i l f = record { heirs = l; place = (omega arith, i.0, i.1, omega arith); found = tt }
+-- ---- an order begins, with nothing found
+pub begins : (p : Pool) (o : Order) (heirs : List ℕ) → IsOrder o → ((segments : ℕ) → o ≡ order.Format segments → ⊥) → ((lane : ℕ) → o ≡ order.Takeover lane → AreLanes heirs)
+    → KnowsOrder p (begun o heirs)
+begins p (order.Format segments) heirs i f l = absurd (f segments refl)
+begins p (order.Look slot) heirs i f l = record { heirs = λ e. absurd (false≢true e); place = i; found = tt }
+begins p (order.Move slot to) heirs i f l = record { heirs = λ e. absurd (false≢true e); place = i; found = tt }
+begins p (order.Fence lane) heirs i f l = record { heirs = λ e. absurd (false≢true e); place = i; found = tt }
+begins p (order.Takeover lane) heirs i f l = record { heirs = λ e. l lane refl; place = (omega arith, i.0, i.1, omega arith); found = tt }

@@ -3,6 +3,7 @@ pub mod Low
 pub mod Gates
 pub mod Deeds
 pub mod Lasting
+pub mod Takeovers
 pub mod Places
 pub mod Actions
 pub mod Steps

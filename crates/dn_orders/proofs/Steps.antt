@@ -26,9 +26,10 @@ use Rattle.dn_monitor.specs.declared.places.Errand.TheVariants.{Move, Takeover}
 use Rattle.dn_monitor.specs.declared.places.MonitorPlace.{MonitorPlace}
 use Rattle.dn_monitor.specs.declared.places.MonitorPlace.TheVariants as at
 use Rattle.dn_beside.specs.Pool.{Pool, store_in, IsWhole}
-use Rattle.dn_orders.specs.Knowing.{IsStill, watch_of, HasFound, HasNobody, AreLanes, KnowsOrder}
+use Rattle.dn_orders.specs.Knowing.{IsStill, watch_of, HasFound, HasNobody, takes, is_taking, AreLanes, KnowsOrder}
 use Rattle.dn_orders.specs.Step.{IsOrderStep}
 use Rattle.dn_orders.proofs.Lasting.{slot_below}
+use Rattle.dn_orders.proofs.Takeovers.{was_taking}
 use Rattle.dn_orders.proofs.Places.{IsKnown, done_known, deed_known, after_deed_known, after_mark_known, won_known}
 use Rattle.dn_orders.proofs.Actions.{same_words, same_step, watching, watch_step, fenced_pool, fence_step, stands, leave_pool, leave_step, MayStamp, IsGrantable, grant_pool, grant_step, adopt_pool, adopt_step}
 
@@ -139,15 +140,15 @@ leaves_by p slot to deed true e h i owned = record {
 leaves_by p slot to deed false e h i owned = loads p (deed_at slot) (at.Deed (Move slot to)) h (deed_known p (Move slot to) i)
 
 -- ---- a grant, or the exchange finds another deed
-heir_below : (heirs : List ℕ) (errand : Errand) → AreLanes heirs → IsErrand errand → heir_of heirs errand < 64
+heir_below : (heirs : List ℕ) (errand : Errand) → (takes errand ≡ true → AreLanes heirs) → IsErrand errand → heir_of heirs errand < 64
 heir_below heirs (Move slot to) h i = i.2
-heir_below heirs (Takeover lane slot n) h i = h.below slot i.0
+heir_below heirs (Takeover lane slot n) h i = (h refl).below slot i.0
 
 may_stamp : (gate : Option Gate) → MayGate gate → MayStamp gate
 may_stamp None h = tt
 may_stamp (Some gate) h = h.0
 
-grantable : (heirs : List ℕ) (errand : Errand) (deed : ℕ) (gate : Option Gate) → AreLanes heirs → IsPlace (at.Grant errand deed gate) → IsGrantable deed (heir_of heirs errand) gate
+grantable : (heirs : List ℕ) (errand : Errand) (deed : ℕ) (gate : Option Gate) → (takes errand ≡ true → AreLanes heirs) → IsPlace (at.Grant errand deed gate) → IsGrantable deed (heir_of heirs errand) gate
 grantable heirs errand deed gate l i = record { epoch = i.1; heir = heir_below heirs errand l i.0; stamp = may_stamp gate i.2 }
 
 -- the deed that stands and has no lane is nobody's
@@ -173,7 +174,7 @@ is_nobody p slot deed h lt was (inr e) = elim (nobody_in (deed_of deed).state) [
 -- what is so at a grant
 record IsAtGrant (p : Pool) (heirs : List ℕ) (errand : Errand) (deed : ℕ) (gate : Option Gate) : Type 0 where
   whole : IsWhole p
-  heirs_are : AreLanes heirs
+  heirs_are : takes errand ≡ true → AreLanes heirs
   is : IsPlace (at.Grant errand deed gate)
   found : HasFound p (at.Grant errand deed gate)
 
@@ -209,7 +210,7 @@ Results p place action = Outcome p (words_after action p.words) (step_in (word_a
 is_action : (p : Pool) (place : MonitorPlace) (one action : Action) → Some one ≡ Some action → Results p place one → Results p place action
 is_action p place one action e r = subst (Results p place) (same_some one action e) r
 
-action_at : (p : Pool) (heirs : List ℕ) (place : MonitorPlace) (action : Action) → IsWhole p → AreLanes heirs → IsPlace place → HasFound p place → next_in heirs place ≡ Some action → Results p place action
+action_at : (p : Pool) (heirs : List ℕ) (place : MonitorPlace) (action : Action) → IsWhole p → (is_taking place ≡ true → AreLanes heirs) → IsPlace place → HasFound p place → next_in heirs place ≡ Some action → Results p place action
 action_at p heirs at.Done action h l i f e = absurd (none_some action e)
 action_at p heirs (at.Format segments) action h l i f e =
     is_action p (at.Format segments) (Store format_at (format_word (record { segments = segments; number = 1 }))) action e (format_at_all p segments h f)
@@ -245,7 +246,7 @@ step p m action word now h k e does =
     let P : ℕ → Type 0 = λ w. KnowsOrder r.q (monitor_after m w) in (
       r.q,
       subst (IsOrderStep p r.q) (sym does.change) r.step,
-      subst P (sym does.answer) (record { heirs = k.heirs; place = r.known.is; found = r.known.found }),
+      subst P (sym does.answer) (record { heirs = λ f. k.heirs (was_taking (word_at p.words (at_of action)) m.place f); place = r.known.is; found = r.known.found }),
     )
 
 pub failed : (p : Pool) (m : Monitoring) (action : Action) (now : List ℕ) → IsWhole p → KnowsOrder p m → monitor_next m ≡ Some action → MayPerform action p.words now

@@ -1,4 +1,4 @@
-use Rattle.std.specs.Prelude.{◌≡◌, ◌⊎◌, ℕ, ◌<◌, ◌≤◌, false, List, Some, None, slice_index}
+use Rattle.std.specs.Prelude.{◌≡◌, ◌⊎◌, ℕ, ◌<◌, ◌≤◌, Bool, true, false, List, Some, None, slice_index}
 use Rattle.dn_word.specs.Deed.{deed_of}
 use Rattle.dn_word.specs.declared.packed.gate.Gate.{Gate}
 use Rattle.dn_word.specs.declared.packed.deed.DeedState.TheVariants.{Nobody, Owned, Released}
@@ -51,11 +51,27 @@ HasFound p (at.Mark errand deed gate) = p.owners.watch ≡ Some (watch_of errand
 HasFound p (at.Grant errand deed None) = HasNobody deed
 HasFound p (at.Grant errand deed (Some gate)) = IsMerged p errand deed gate
 
--- each slot goes to a lane, or to nobody, which is 0
+-- a takeover is under way
+abbrev pub takes : Errand → Bool
+takes (Move slot to) = false
+takes (Takeover lane slot n) = true
+
+abbrev pub is_taking : MonitorPlace → Bool
+is_taking at.Done = false
+is_taking (at.Format segments) = false
+is_taking (at.Look slot) = false
+is_taking (at.Fence lane) = false
+is_taking (at.Deed errand) = takes errand
+is_taking (at.Leave slot to deed) = false
+is_taking (at.Gate errand deed) = takes errand
+is_taking (at.Mark errand deed gate) = takes errand
+is_taking (at.Grant errand deed gate) = takes errand
+
+-- and gives each slot to a lane, or to nobody, which is 0
 pub record AreLanes (heirs : List ℕ) : Type 0 where
   pub below : (t : ℕ) → t < 64 → slice_index heirs t < 64
 
 pub record KnowsOrder (p : Pool) (m : Monitoring) : Type 0 where
-  pub heirs : AreLanes m.heirs
+  pub heirs : is_taking m.place ≡ true → AreLanes m.heirs
   pub place : IsPlace m.place
   pub found : HasFound p m.place
