@@ -1,0 +1,5 @@
+pub mod Lists
+pub mod Keeping
+pub mod Learning
+pub mod Telling
+pub mod Answering

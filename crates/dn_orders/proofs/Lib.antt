@@ -1,0 +1,9 @@
+pub mod Words
+pub mod Low
+pub mod Gates
+pub mod Deeds
+pub mod Lasting
+pub mod Takeovers
+pub mod Places
+pub mod Actions
+pub mod Steps

@@ -1,0 +1,3 @@
+pub mod Knowing
+pub mod Changing
+pub mod Step
