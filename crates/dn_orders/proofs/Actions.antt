@@ -24,9 +24,9 @@ use Rattle.dn_beside.proofs.Still.{learning_step, quiet_still}
 use Rattle.dn_orders.specs.Changing.{Same, Asks, Grants, Adopts, Fences}
 use Rattle.dn_orders.specs.Step.{IsOrderStep}
 use Rattle.dn_orders.proofs.Words.{gate_barred, deed_again}
-use Rattle.dn_orders.proofs.Low.{after_event}
+use Rattle.dn_beside.proofs.Low.{after_event}
 use Rattle.dn_orders.proofs.Gates.{bit_step}
-use Rattle.dn_orders.proofs.Deeds.{deed_step}
+use Rattle.dn_beside.proofs.Deeds.{deed_step}
 
 -- Each kind of action of the monitor, as a step.
 

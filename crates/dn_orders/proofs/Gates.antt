@@ -10,7 +10,7 @@ use Rattle.dn_owners.specs.Given.{IsGiven}
 use Rattle.dn_beside.specs.Pool.{Pool, store_in, IsWhole}
 use Rattle.dn_beside.specs.Orders.{LeavesOrder}
 use Rattle.dn_beside.specs.Step.{Acting, IsStepBy}
-use Rattle.dn_orders.proofs.Low.{after_event, low_step}
+use Rattle.dn_beside.proofs.Low.{after_event, low_step}
 
 -- A gate gets the bit and keeps the rest.
 

@@ -1,7 +1,5 @@
 pub mod Words
-pub mod Low
 pub mod Gates
-pub mod Deeds
 pub mod Lasting
 pub mod Takeovers
 pub mod Places

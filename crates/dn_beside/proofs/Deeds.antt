@@ -13,7 +13,7 @@ use Rattle.dn_beside.specs.Pool.{Pool, store_in, IsWhole, IsDeed, ArePlain}
 use Rattle.dn_beside.specs.Lanes.{IsMoved}
 use Rattle.dn_beside.specs.Orders.{LeavesOrder}
 use Rattle.dn_beside.specs.Step.{Acting, IsStepBy}
-use Rattle.dn_orders.proofs.Low.{after_event, low_step}
+use Rattle.dn_beside.proofs.Low.{after_event, low_step}
 
 -- The deed of a slot is exchanged, by an event that changes it alone of the store.
 
