@@ -1,3 +1,4 @@
 pub mod Called
 pub mod Lasts
 pub mod Positions
+pub mod Ends

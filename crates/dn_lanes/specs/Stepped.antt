@@ -7,7 +7,8 @@ use Rattle.dn_log.specs.declared.claims.Claim.{Claim}
 use Rattle.dn_log.specs.declared.claims.Claim.TheVariants.{Reading, Taking}
 use Rattle.dn_lane2.specs.Asked.{call_in, view_in}
 use Rattle.dn_lane2.specs.State.{LaneState}
-use Rattle.dn_lane2.specs.Turns.{turn_of, left_of}
+use Rattle.dn_lane2.specs.Taken.{Taken, taken_by}
+use Rattle.dn_lane2.specs.Turns.{turned, left}
 use Rattle.dn_lane2.specs.declared.answers.Answer.{Answer}
 use Rattle.dn_lane2.specs.declared.answers.Answer.TheVariants as answer
 use Rattle.dn_lane2.specs.declared.answers.Turn.{Turn}
@@ -60,12 +61,15 @@ IsCounting p q l m =
     ⊎ (((store_in p).segment_count < (store_in p).pool) × ((store_in q).segment_count ≡ (store_in p).segment_count)
     × (claims_in l.mode ≡ 0) × (claims_in m.mode ≡ 1))
 
--- ---- the pool then, and what the lane knows of it
-pub record LaneStepped (p : Pool) (n : ℕ) (l : LaneState) (word : ℕ) (now : List ℕ) : Type 0 where
+-- ---- the pool then, and what the lane knows of it, where its action found a word by which it comes to this
+pub record ComesTo (p : Pool) (n : ℕ) (l : LaneState) (now : List ℕ) (t : Taken) : Type 0 where
   pub q : Pool
   pub words : q.words ≡ now
   pub by : IsStepBy (by_lane n) p q
-  pub lane : IsLaneAt n (left_of l word) q
-  pub joins : Joins p q (receipt_by (turn_of l word))
-  pub its : (r : Receipt) → receipt_by (turn_of l word) ≡ Some r → IsOfCall l r
-  pub counts : IsCounting p q l (left_of l word)
+  pub lane : IsLaneAt n (left t) q
+  pub joins : Joins p q (receipt_by (turned t))
+  pub its : (r : Receipt) → receipt_by (turned t) ≡ Some r → IsOfCall l r
+  pub counts : IsCounting p q l (left t)
+
+abbrev pub LaneStepped : Pool → ℕ → LaneState → ℕ → List ℕ → Type 0
+LaneStepped p n l word now = ComesTo p n l now (taken_by l.base l.asked l.mode word)
