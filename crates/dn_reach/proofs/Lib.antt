@@ -5,3 +5,7 @@ pub mod Flows
 pub mod Stages
 pub mod Claims
 pub mod Gates
+pub mod Grown
+pub mod Tiled
+pub mod Added
+pub mod Seals

@@ -1,26 +1,30 @@
 //! What is so of a lane's own log and steps, as functions without work: what each says is its contract.
 
-ghost use Rattle.std.specs.Prelude.{◌≡◌, ◌≢◌, ◌<◌, ◌-◌, ◌^◌, ℕ, List, false, Some, None, length, slice_get};
+ghost use Rattle.std.specs.Prelude.{◌≡◌, ◌≢◌, ◌<◌, ◌-◌, ◌^◌, ◌++◌, ◌∷◌, ℕ, List, [], Option, false, true, Some, None, length, slice_get};
 ghost use Rattle.std.specs.List.{remove};
 ghost use Rattle.dn_act.specs.Action.{Performs};
 ghost use Rattle.dn_act.specs.declared.actions.Action.TheVariants.{Store, Cas, Add};
 ghost use Rattle.dn_word.specs.Regions.{segment_counter_at};
 ghost use Rattle.dn_word.specs.Gate.{gate_of};
 ghost use Rattle.dn_record.specs.Grammar.{IsRecord};
-ghost use Rattle.dn_record.specs.Record.{key_of};
+ghost use Rattle.dn_record.specs.Record.{key_of, value_of};
 ghost use Rattle.dn_record.specs.declared.records.Record.{Record};
-ghost use Rattle.dn_log.specs.Log.{Log, reach_of, IsFit, IsApart};
+ghost use Rattle.dn_log.specs.Log.{Log, reach_of, sealed_of, IsFit, IsApart};
+ghost use Rattle.dn_log.specs.declared.plans.Plan.{Plan};
 ghost use Rattle.dn_log.specs.declared.staging.Staged.{Staged};
 ghost use Rattle.dn_model.specs.Regions.{IsLane};
+ghost use Rattle.dn_model.specs.Held.{Says, unmerged};
+ghost use Rattle.dn_model.specs.OneLog.{is_plain};
+ghost use Rattle.dn_store.specs.Holding.{holds};
 ghost use Rattle.dn_beside.specs.Pool.{Pool, store_in, IsWhole};
 ghost use Rattle.dn_beside.specs.Lanes.{LeavesOwn};
 ghost use Rattle.dn_beside.specs.Step.{IsStepBy, IsQuiet, by_lane};
 ghost use Rattle.dn_services.specs.Staged.{GoApart};
 ghost use Rattle.dn_reach.specs.OwnLog.{HoldsLog, IsLaneOf};
 ghost use Rattle.dn_reach.specs.Staging.{MayStage, MayStageAll, AreFlowing};
-ghost use Rattle.dn_reach.specs.Placing.{plan_for, staged_for};
+ghost use Rattle.dn_reach.specs.Placing.{plan_for, staged_for, placed_by};
 ghost use Rattle.dn_reach.specs.Exchange.{open_gate, IsExchanged};
-ghost use Rattle.dn_reach.specs.Sealing.{flowed, claims, misses, raised};
+ghost use Rattle.dn_reach.specs.Sealing.{flowed, claims, misses, raised, seals, MaySeal};
 
 /// What a lane knows of its log lasts while others act, also while its gate gets the bit.
 pub fn lasts()
@@ -92,4 +96,41 @@ pub fn raise()
         → HoldsLog (raised p n old stamp now) n log }
     ensures gate { (p : Pool) (n old stamp : ℕ) (now : List ℕ)
         → (store_in (raised p n old stamp now)).gates n ≡ open_gate stamp (gate_of old).len }
+{}
+
+/// A lane seals a put or delete, all of whose words stand in the pool: the gate gets the plan's length, the log its
+/// records, and at the key it is held then what the record says. The lane has one more pending record.
+pub fn seal()
+    ensures step { (p : Pool) (n : ℕ) (log : Log) (k : ℕ) (r : Record) (old stamp : ℕ) (now : List ℕ)
+        → IsLaneOf p n log → MaySeal p n log k r → IsExchanged p n old stamp (plan_for log r).len now
+        → IsStepBy (by_lane n) p (seals p n log r stamp now) }
+    ensures log { (p : Pool) (n : ℕ) (log : Log) (k : ℕ) (r : Record) (old stamp : ℕ) (now : List ℕ)
+        → IsLaneOf p n log → MaySeal p n log k r → IsExchanged p n old stamp (plan_for log r).len now
+        → HoldsLog (seals p n log r stamp now) n (sealed_of log (plan_for log r)) }
+    ensures held { (p : Pool) (n : ℕ) (log : Log) (k : ℕ) (r : Record) (old stamp : ℕ) (now : List ℕ)
+        → IsLaneOf p n log → MaySeal p n log k r → IsExchanged p n old stamp (plan_for log r).len now
+        → holds (store_in (seals p n log r stamp now)) k ≡ Says (value_of r) }
+    ensures others { (p : Pool) (n : ℕ) (log : Log) (k : ℕ) (r : Record) (old stamp : ℕ) (now : List ℕ)
+        (q : ℕ) (v : Option (List ℕ)) → IsLaneOf p n log → MaySeal p n log k r
+        → IsExchanged p n old stamp (plan_for log r).len now → q ≢ k → holds (store_in p) q ≡ Says v
+        → holds (store_in (seals p n log r stamp now)) q ≡ Says v }
+    ensures promised { (p : Pool) (n : ℕ) (log : Log) (r : Record) (stamp : ℕ) (now : List ℕ) (q : ℕ)
+        → (seals p n log r stamp now).owners.promised q ≡ p.owners.promised q }
+    ensures gate { (p : Pool) (n : ℕ) (log : Log) (r : Record) (stamp : ℕ) (now : List ℕ)
+        → (store_in (seals p n log r stamp now)).gates n ≡ open_gate stamp (plan_for log r).len }
+    ensures logs { (p : Pool) (n : ℕ) (log : Log) (r : Record) (stamp : ℕ) (now : List ℕ)
+        → (store_in (seals p n log r stamp now)).logs n
+        ≡ (store_in p).logs n ++ placed_by (plan_for log r) r }
+    ensures knows { (p : Pool) (n : ℕ) (log : Log) (k : ℕ) (r : Record) (stamp : ℕ) (now : List ℕ)
+        → MaySeal p n log k r → (seals p n log r stamp now).owners.knows n
+        ≡ record (p.owners.knows n) { pending = (p.owners.knows n).pending
+        ++ record { key = k; offset = (plan_for log r).at } ∷ [] } }
+{}
+
+/// What a put or delete leaves of its log's new records: at its key itself, and nothing at others.
+pub fn added()
+    ensures own { (plan : Plan) (r : Record) (k : ℕ) → is_plain r ≡ true → key_of r ≡ Some k
+        → unmerged k 0 (placed_by plan r) ≡ Some r }
+    ensures other { (plan : Plan) (r : Record) (k q : ℕ) → is_plain r ≡ true → key_of r ≡ Some k → q ≢ k
+        → unmerged q 0 (placed_by plan r) ≡ None }
 {}
