@@ -1,6 +1,6 @@
 //! What is so of a lane's own log and steps, as functions without work: what each says is its contract.
 
-ghost use Rattle.std.specs.Prelude.{◌≡◌, ◌≢◌, ◌<◌, ◌-◌, ◌^◌, ◌++◌, ◌∷◌, ℕ, List, [], Option, false, true, Some, None, length, slice_get};
+ghost use Rattle.std.specs.Prelude.{◌≡◌, ◌≢◌, ◌≤◌, ◌<◌, ◌-◌, ◌^◌, ◌++◌, ◌∷◌, ℕ, List, [], Option, false, true, Some, None, length, slice_get};
 ghost use Rattle.std.specs.List.{remove};
 ghost use Rattle.dn_act.specs.Action.{Performs};
 ghost use Rattle.dn_act.specs.declared.actions.Action.TheVariants.{Store, Cas, Add};
@@ -12,7 +12,7 @@ ghost use Rattle.dn_record.specs.declared.records.Record.{Record};
 ghost use Rattle.dn_log.specs.Log.{Log, reach_of, sealed_of, IsFit, IsApart};
 ghost use Rattle.dn_log.specs.declared.plans.Plan.{Plan};
 ghost use Rattle.dn_log.specs.declared.staging.Staged.{Staged};
-ghost use Rattle.dn_model.specs.Regions.{IsLane};
+ghost use Rattle.dn_model.specs.Regions.{directory, IsLane};
 ghost use Rattle.dn_model.specs.Held.{Says, unmerged};
 ghost use Rattle.dn_model.specs.OneLog.{is_plain};
 ghost use Rattle.dn_store.specs.Holding.{holds};
@@ -20,11 +20,18 @@ ghost use Rattle.dn_beside.specs.Pool.{Pool, store_in, IsWhole};
 ghost use Rattle.dn_beside.specs.Lanes.{LeavesOwn};
 ghost use Rattle.dn_beside.specs.Step.{IsStepBy, IsQuiet, by_lane};
 ghost use Rattle.dn_services.specs.Staged.{GoApart};
-ghost use Rattle.dn_reach.specs.OwnLog.{HoldsLog, IsLaneOf};
+ghost use Rattle.dn_reach.specs.OwnLog.{HoldsLog, IsLaneOf, empty_log};
 ghost use Rattle.dn_reach.specs.Staging.{MayStage, MayStageAll, AreFlowing};
 ghost use Rattle.dn_reach.specs.Placing.{plan_for, staged_for, placed_by};
 ghost use Rattle.dn_reach.specs.Exchange.{open_gate, IsExchanged};
 ghost use Rattle.dn_reach.specs.Sealing.{flowed, claims, misses, raised, seals, MaySeal};
+
+/// A lane whose gate has length 0, and whose directory names nothing, begins with an empty log.
+pub fn begins()
+    ensures { (p : Pool) (n : ℕ) → IsLane n → (store_in p).pool ≤ 8192
+        → ((store_in p).gates n).len ≡ 0 → ((q : ℕ) → q < 256 → directory p.words n q ≡ 0)
+        → HoldsLog p n (empty_log n (store_in p).pool) }
+{}
 
 /// What a lane knows of its log lasts while others act, also while its gate gets the bit.
 pub fn lasts()
