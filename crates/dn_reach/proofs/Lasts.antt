@@ -1,16 +1,15 @@
-use Rattle.std.proofs.Common.{ℕ, ◌+◌, ◌*◌, ◌/◌, ◌%◌, ◌<◌, ◌≤◌, ◌≡◌, ◌⊎◌, ◌++◌, inl, inr, List, [], ◌∷◌, All, length, slice_index, option_to_list, Option, Some, refl, sym, ◌∙◌, ap, subst, arith, Contains}
+use Rattle.std.proofs.Common.{ℕ, ◌+◌, ◌*◌, ◌/◌, ◌%◌, ◌<◌, ◌≤◌, ◌≡◌, inl, inr, List, length, slice_index, refl, sym, ◌∙◌, ap, subst, arith}
 use Rattle.std.proofs.lemmas.Nat.{mod_below}
-use Rattle.std.proofs.lemmas.List.{length-append}
 use Rattle.std.proofs.lemmas.List.Elements.{All-get_or, All-nil}
 use Rattle.dn_act.specs.Words.{word_at}
-use Rattle.dn_log.specs.Log.{Log, reach_of, word_of, IsFit}
+use Rattle.dn_log.specs.Log.{Log, reach_of, IsFit}
 use Rattle.dn_log.specs.declared.staging.Staged.{Staged}
 use Rattle.dn_model.specs.Regions.{directory, directory_at, IsLane}
 use Rattle.dn_beside.specs.Pool.{Pool, store_in}
 use Rattle.dn_beside.specs.Lanes.{LeavesOwn}
 use Rattle.dn_reach.specs.Directory.{NamesSegments}
 use Rattle.dn_reach.specs.OwnLog.{HoldsLog, empty_log}
-use Rattle.dn_reach.specs.Staging.{IsDirectoryWord, IsLogWord, MayStage, MayStageAll, AreFlowing}
+use Rattle.dn_reach.specs.Staging.{MayStage, MayStageAll, AreFlowing}
 use Rattle.dn_reach.proofs.Within.{few_segments, directory_inside}
 
 -- What a lane knows of its log lasts under steps that leave its own words.

@@ -1,16 +1,15 @@
-use Rattle.std.proofs.Common.{ℕ, ◌+◌, ◌*◌, ◌^◌, ◌<◌, ◌≤◌, ◌≡◌, ◌≢◌, ◌⊎◌, ◌++◌, inl, inr, true, false, List, [], ◌∷◌, All, Contains, length, slice_set, slice_index, option_to_list, Option, Some, None, refl, sym, ◌∙◌, ap, subst, arith}
+use Rattle.std.proofs.Common.{ℕ, ◌+◌, ◌^◌, ◌<◌, ◌≤◌, ◌≡◌, ◌≢◌, ◌++◌, inl, inr, true, List, [], ◌∷◌, All, Contains, length, slice_set, slice_index, Option, refl, sym, ◌∙◌, ap, subst, arith}
 use Rattle.std.proofs.lemmas.List.Elements.{Contains-append_cases}
 use Rattle.dn_word.specs.Gate.{gate_of, gate_word}
 use Rattle.dn_word.specs.declared.packed.gate.Gate.{Gate}
-use Rattle.dn_record.specs.Grammar.{IsRecord}
-use Rattle.dn_record.specs.Record.{spelling, length_in_words, key_of, value_of}
+use Rattle.dn_record.specs.Record.{spelling, length_in_words, value_of}
 use Rattle.dn_record.specs.declared.records.Record.{Record}
-use Rattle.dn_log.specs.Log.{Log, reach_of, plan_of, sealed_of, new_segment_of, IsFit, IsApart}
+use Rattle.dn_log.specs.Log.{Log, sealed_of, new_segment_of, IsFit, IsApart}
 use Rattle.dn_log.specs.declared.plans.Plan.{Plan}
 use Rattle.dn_model.specs.declared.logs.Placed.{Placed}
-use Rattle.dn_model.specs.Regions.{gate_at, slot_of, directory, offsets, IsLane}
+use Rattle.dn_model.specs.Regions.{gate_at, slot_of, directory, offsets}
 use Rattle.dn_model.specs.Log.{Tiles, IsCovered}
-use Rattle.dn_model.specs.Held.{Says, unmerged}
+use Rattle.dn_model.specs.Held.{Says}
 use Rattle.dn_model.specs.OneLog.{is_plain}
 use Rattle.dn_model.proofs.LogLaws.{tiles_le, some_words}
 use Rattle.dn_services.specs.Staged.{placed, directory_staged, pad_staged}
@@ -22,8 +21,8 @@ use Rattle.dn_store.proofs.At.{at_by, at_same, at_other}
 use Rattle.dn_store.proofs.Lanes.{seal}
 use Rattle.dn_owners.specs.Counting.{pending_in}
 use Rattle.dn_owners.specs.Known.{Knows}
-use Rattle.dn_owners.specs.Events.{Event, Seal, happens}
-use Rattle.dn_owners.specs.Given.{IsSealing, IsGiven}
+use Rattle.dn_owners.specs.Events.{Event, Seal}
+use Rattle.dn_owners.specs.Given.{IsGiven}
 use Rattle.dn_owners.specs.Later.{IsHeldAfterSeal}
 use Rattle.dn_owners.specs.Sound.{Rise}
 use Rattle.dn_owners.proofs.Logs.{ordered, rise_low}
@@ -35,7 +34,8 @@ use Rattle.dn_reach.specs.Directory.{NamesSegments}
 use Rattle.dn_reach.specs.OwnLog.{HoldsLog, IsLaneOf}
 use Rattle.dn_reach.specs.Placing.{plan_for, staged_for, placed_by}
 use Rattle.dn_reach.specs.Exchange.{open_gate, IsExchanged}
-use Rattle.dn_reach.specs.Sealing.{MaySeal, seals}
+use Rattle.dn_reach.specs.Steps.{after_seal}
+use Rattle.dn_reach.specs.Sealing.{MaySeal}
 use Rattle.dn_reach.proofs.OwnSteps.{IsOwnStep, own_step, stored_alike, low_not_of}
 use Rattle.dn_reach.proofs.Grown.{AreThere, all_there, there_left, IsGrown, IsReached, reached, grown, grown_covered, end_fits}
 use Rattle.dn_reach.proofs.Tiled.{placed_tiled}
@@ -63,8 +63,8 @@ sealable p n log k r old stamp now h m x =
     let s = h.own in
     let plan : Plan = plan_for log r in
     let there : AreThere p.words (staged_for log r) = all_there p.words (staged_for log r) m.flowed in
-    let reach : IsReached p.words log plan = reached p.words log (length_in_words r) s.directory m.room
-        (there_left p.words (directory_staged log (new_segment_of log plan)) (pad_staged log plan.pad ++ placed log plan.at (spelling r)) there) in
+    let reach : IsReached p.words log plan = reached p.words log (length_in_words r) s.directory m.may.room
+    (there_left p.words (directory_staged log (new_segment_of log plan)) (pad_staged log plan.pad ++ placed log plan.at (spelling r)) there) in
     let fits : plan.len < 2 ^ 24 = end_fits p.words log plan.len reach.segments reach.spare reach.grows s.fit in
     let TilesAt : ℕ → Type 0 = λ l. Tiles (offsets p.words l) log.len (placed_by plan r) plan.len in
     let TilesFrom : ℕ → Type 0 = λ o. Tiles (offsets p.words n) o (placed_by plan r) plan.len in
@@ -72,7 +72,7 @@ sealable p n log k r old stamp now h m x =
     record {
       reach = reach;
       stored = gate_stored p n old stamp plan.len now h.whole h.lane fits x;
-      tiled = subst TilesFrom (sym s.len) (subst TilesAt s.lane (placed_tiled p.words log r k reach.segments reach.spare m.spelled m.key reach.grows there));
+      tiled = subst TilesFrom (sym s.len) (subst TilesAt s.lane (placed_tiled p.words log r k reach.segments reach.spare m.may.spelled m.may.key reach.grows there));
       covered = subst CoversAt s.lane (grown_covered p.words log plan.len reach.segments reach.spare reach.grows s.fit);
     }
 
@@ -82,11 +82,11 @@ event n log r stamp = Seal n (open_gate stamp (plan_for log r).len) (placed_by (
 
 seal_given : (p : Pool) (n : ℕ) (log : Log) (k : ℕ) (r : Record) (old stamp : ℕ) (now : List ℕ) → IsLaneOf p n log → MaySeal p n log k r → IsSealable p n log r old stamp now → IsGiven p.owners (event n log r stamp)
 seal_given p n log k r old stamp now h m z = record {
-  running = (h.whole.sound.looks n).running m.look m.looked;
+  running = (h.whole.sound.looks n).running m.may.look m.may.looked;
   exchange = z.stored.exchange;
   longer = tiles_le (offsets p.words n) ((store_in p).gates n).len (plan_for log r).len (placed_by (plan_for log r) r) z.tiled;
   rise = tiled_rise (offsets p.words n) ((store_in p).gates n).len (plan_for log r).len (placed_by (plan_for log r) r) z.tiled;
-  owned = λ q s u. (m.look, m.looked, ap slot_of (placed_key (plan_for log r) r s k q m.plain m.key u).1 ∙ m.slot);
+  owned = λ q s u. (m.may.look, m.may.looked, ap slot_of (placed_key (plan_for log r) r s k q m.may.plain m.may.key u).1 ∙ m.may.slot);
 }
 
 -- ---- the step
@@ -109,11 +109,11 @@ seal_plain p n log k r h m = λ i x.
     at_by (λ xs. Contains xs x → is_plain x.entry ≡ true) (store_in p).logs n ((store_in p).logs n ++ placed_by (plan_for log r) r) i
     (λ e c. elim (Contains-append_cases ((store_in p).logs n) (placed_by (plan_for log r) r) x c) [
       | inl old ↦ h.plain n x old
-      | inr new ↦ placed_plain (plan_for log r) r x m.plain new
+      | inr new ↦ placed_plain (plan_for log r) r x m.may.plain new
     ])
     (λ d c. h.plain i x c)
 
-seal_own : (p : Pool) (n : ℕ) (log : Log) (k : ℕ) (r : Record) (old stamp : ℕ) (now : List ℕ) → IsLaneOf p n log → MaySeal p n log k r → IsSealable p n log r old stamp now → IsOwnStep n (gate_at n) p (seals p n log r stamp now)
+seal_own : (p : Pool) (n : ℕ) (log : Log) (k : ℕ) (r : Record) (old stamp : ℕ) (now : List ℕ) → IsLaneOf p n log → MaySeal p n log k r → IsSealable p n log r old stamp now → IsOwnStep n (gate_at n) p (after_seal p n log r stamp now)
 seal_own p n log k r old stamp now h m z =
     let s = store_in p in
     let plan : Plan = plan_for log r in
@@ -152,8 +152,8 @@ seal_own p n log k r old stamp now h m z =
       located = λ i q l x d look slot clear a. located p.owners e i q l x order h.whole.sound given look slot clear (at_other s.logs n more i d) a;
     }
 
-pub seal_step : (p : Pool) (n : ℕ) (log : Log) (k : ℕ) (r : Record) (old stamp : ℕ) (now : List ℕ) → IsLaneOf p n log → MaySeal p n log k r → IsExchanged p n old stamp (plan_for log r).len now → IsStepBy (by_lane n) p (seals p n log r stamp now)
-seal_step p n log k r old stamp now h m x = own_step n (gate_at n) p (seals p n log r stamp now) (seal_own p n log k r old stamp now h m (sealable p n log k r old stamp now h m x))
+pub seal_step : (p : Pool) (n : ℕ) (log : Log) (k : ℕ) (r : Record) (old stamp : ℕ) (now : List ℕ) → IsLaneOf p n log → MaySeal p n log k r → IsExchanged p n old stamp (plan_for log r).len now → IsStepBy (by_lane n) p (after_seal p n log r stamp now)
+seal_step p n log k r old stamp now h m x = own_step n (gate_at n) p (after_seal p n log r stamp now) (seal_own p n log k r old stamp now h m (sealable p n log k r old stamp now h m x))
 
 -- ---- the lane's log
 seal_names : (words : List ℕ) (log : Log) (end : ℕ) (segments : List ℕ) (spare : Option ℕ) → IsGrown words log end segments spare → NamesSegments words log → NamesSegments words (grown log end segments spare)
@@ -168,7 +168,7 @@ grown_fit words log end segments spare g fit =
     record { lane = fit.lane; pool = fit.pool; count = subst Few (sym g.reach) fit.count; len = g.enough; each = subst Each (sym g.reach) fit.each }
 
 pub seal_log : (p : Pool) (n : ℕ) (log : Log) (k : ℕ) (r : Record) (old stamp : ℕ) (now : List ℕ) → IsLaneOf p n log → MaySeal p n log k r → IsExchanged p n old stamp (plan_for log r).len now
-    → HoldsLog (seals p n log r stamp now) n (sealed_of log (plan_for log r))
+    → HoldsLog (after_seal p n log r stamp now) n (sealed_of log (plan_for log r))
 seal_log p n log k r old stamp now h m x =
     let s = h.own in
     let plan : Plan = plan_for log r in
@@ -179,7 +179,7 @@ seal_log p n log k r old stamp now h m x =
     let Apart : List ℕ → Type 0 = λ gs. IsApart gs in
     let Holds : List ℕ → Type 0 = λ gs. All (λ y. (store_in p).holders y ≡ n) gs in
     let Names : List ℕ → Type 0 = λ ws. NamesSegments ws after in
-    let P : Log → Type 0 = λ l. HoldsLog (seals p n log r stamp now) n l in
+    let P : Log → Type 0 = λ l. HoldsLog (after_seal p n log r stamp now) n l in
     subst P (sym z.reach.sealed) (record {
       lane = s.lane;
       pool = s.pool;
@@ -198,27 +198,27 @@ seal_held p n log k r old stamp now q h m x =
     held_after p.owners (event n log r stamp) q (ordered p.words p.chains (store_in p) h.whole.represents) h.whole.sound (seal_given p n log k r old stamp now h m (sealable p n log k r old stamp now h m x))
 
 pub seal_key : (p : Pool) (n : ℕ) (log : Log) (k : ℕ) (r : Record) (old stamp : ℕ) (now : List ℕ) → IsLaneOf p n log → MaySeal p n log k r → IsExchanged p n old stamp (plan_for log r).len now
-    → holds (store_in (seals p n log r stamp now)) k ≡ Says (value_of r)
-seal_key p n log k r old stamp now h m x = (seal_held p n log k r old stamp now k h m x).plain r (placed_last (plan_for log r) r k m.plain m.key) m.plain
+    → holds (store_in (after_seal p n log r stamp now)) k ≡ Says (value_of r)
+seal_key p n log k r old stamp now h m x = (seal_held p n log k r old stamp now k h m x).plain r (placed_last (plan_for log r) r k m.may.plain m.may.key) m.may.plain
 
 pub seal_others : (p : Pool) (n : ℕ) (log : Log) (k : ℕ) (r : Record) (old stamp : ℕ) (now : List ℕ) (q : ℕ) (v : Option (List ℕ)) → IsLaneOf p n log → MaySeal p n log k r → IsExchanged p n old stamp (plan_for log r).len now
-    → q ≢ k → holds (store_in p) q ≡ Says v → holds (store_in (seals p n log r stamp now)) q ≡ Says v
-seal_others p n log k r old stamp now q v h m x d e = (seal_held p n log k r old stamp now q h m x).other v (placed_none (plan_for log r) r k q m.plain m.key d) e
+    → q ≢ k → holds (store_in p) q ≡ Says v → holds (store_in (after_seal p n log r stamp now)) q ≡ Says v
+seal_others p n log k r old stamp now q v h m x d e = (seal_held p n log k r old stamp now q h m x).other v (placed_none (plan_for log r) r k q m.may.plain m.may.key d) e
 
 -- ---- and the lane's gate and sealed log
-pub seal_gate : (p : Pool) (n : ℕ) (log : Log) (r : Record) (stamp : ℕ) (now : List ℕ) → (store_in (seals p n log r stamp now)).gates n ≡ open_gate stamp (plan_for log r).len
+pub seal_gate : (p : Pool) (n : ℕ) (log : Log) (r : Record) (stamp : ℕ) (now : List ℕ) → (store_in (after_seal p n log r stamp now)).gates n ≡ open_gate stamp (plan_for log r).len
 seal_gate p n log r stamp now = at_same (store_in p).gates n (open_gate stamp (plan_for log r).len) n refl
 
-pub seal_logs : (p : Pool) (n : ℕ) (log : Log) (r : Record) (stamp : ℕ) (now : List ℕ) → (store_in (seals p n log r stamp now)).logs n ≡ (store_in p).logs n ++ placed_by (plan_for log r) r
+pub seal_logs : (p : Pool) (n : ℕ) (log : Log) (r : Record) (stamp : ℕ) (now : List ℕ) → (store_in (after_seal p n log r stamp now)).logs n ≡ (store_in p).logs n ++ placed_by (plan_for log r) r
 seal_logs p n log r stamp now = at_same (store_in p).logs n ((store_in p).logs n ++ placed_by (plan_for log r) r) n refl
 
 -- and it has one more pending record
 pub seal_knows : (p : Pool) (n : ℕ) (log : Log) (k : ℕ) (r : Record) (stamp : ℕ) (now : List ℕ) → MaySeal p n log k r
-    → (seals p n log r stamp now).owners.knows n ≡ record (p.owners.knows n) { pending = (p.owners.knows n).pending ++ record { key = k; offset = (plan_for log r).at } ∷ [] }
+    → (after_seal p n log r stamp now).owners.knows n ≡ record (p.owners.knows n) { pending = (p.owners.knows n).pending ++ record { key = k; offset = (plan_for log r).at } ∷ [] }
 seal_knows p n log k r stamp now m =
     let v : Knows = p.owners.knows n in
     at_same p.owners.knows n (record v { pending = v.pending ++ pending_in (placed_by (plan_for log r) r) }) n refl
-    ∙ ap (λ xs. (let w : Knows = record v { pending = v.pending ++ xs } in w)) (placed_pending (plan_for log r) r k m.plain m.key)
+    ∙ ap (λ xs. (let w : Knows = record v { pending = v.pending ++ xs } in w)) (placed_pending (plan_for log r) r k m.may.plain m.may.key)
 
-pub seal_promised : (p : Pool) (n : ℕ) (log : Log) (r : Record) (stamp : ℕ) (now : List ℕ) (q : ℕ) → (seals p n log r stamp now).owners.promised q ≡ p.owners.promised q
+pub seal_promised : (p : Pool) (n : ℕ) (log : Log) (r : Record) (stamp : ℕ) (now : List ℕ) (q : ℕ) → (after_seal p n log r stamp now).owners.promised q ≡ p.owners.promised q
 seal_promised p n log r stamp now q = refl

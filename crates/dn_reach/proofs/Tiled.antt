@@ -1,11 +1,10 @@
-use Rattle.std.proofs.Common.{ℕ, ◌+◌, ◌%◌, ◌≤◌, ◌≡◌, List, [], ◌∷◌, ◌++◌, length, Option, Some, None, sym, ap, subst, arith}
+use Rattle.std.proofs.Common.{ℕ, ◌+◌, ◌%◌, ◌≤◌, ◌≡◌, List, [], ◌∷◌, ◌++◌, Option, Some, None, sym, subst, arith}
 use Rattle.std.proofs.lemmas.Grind.{common_steps}
 use Rattle.dn_record.specs.Grammar.{IsRecord}
 use Rattle.dn_record.specs.Record.{spelling, length_in_words, key_of}
 use Rattle.dn_record.specs.declared.records.Record.{Record}
 use Rattle.dn_record.specs.declared.records.Record.TheVariants.{Put, Delete, Share, Unshare, Loose, LooseDelete, Pad}
 use Rattle.dn_log.specs.Log.{Log, plan_of, start_of, new_segment_of, Fills, IsPad}
-use Rattle.dn_log.specs.declared.plans.Plan.{Plan}
 use Rattle.dn_log.proofs.PlanLaws.{plan-fills}
 use Rattle.dn_model.specs.Regions.{offsets}
 use Rattle.dn_model.specs.declared.logs.Placed.{Placed}
