@@ -36,7 +36,8 @@ pub fn begins()
 
 /// What a lane knows of its log lasts while others act, also while its gate gets the bit.
 pub fn lasts()
-    ensures log { (p q : Pool) (n : ℕ) (log : Log) → LeavesOwn n p q → HoldsLog p n log → HoldsLog q n log }
+    ensures log { (p q : Pool) (n : ℕ) (log : Log) → LeavesOwn n p q → HoldsLog p n log
+        → HoldsLog q n log }
     ensures flowing { (p q : Pool) (n : ℕ) (log : Log) (staged all : List Staged)
         → LeavesOwn n p q → HoldsLog p n log → MayStageAll log all
         → AreFlowing p.words staged all → AreFlowing q.words staged all }
@@ -57,8 +58,9 @@ pub fn room()
 pub fn staged()
     ensures may { (log : Log) (r : Record) → IsRecord r → (plan_for log r).need_segment ≡ false
         → MayStageAll log (staged_for log r) }
-    ensures apart { (log : Log) (r : Record) (k : ℕ) → IsFit log → IsApart (reach_of log) → IsRecord r
-        → key_of r ≡ Some k → (plan_for log r).need_segment ≡ false → GoApart (staged_for log r) }
+    ensures apart { (log : Log) (r : Record) (k : ℕ) → IsFit log → IsApart (reach_of log)
+        → IsRecord r → key_of r ≡ Some k → (plan_for log r).need_segment ≡ false
+        → GoApart (staged_for log r) }
     ensures waiting { (words : List ℕ) (all : List Staged) → AreFlowing words all all }
 {}
 
@@ -71,8 +73,8 @@ pub fn flow()
     ensures log { (p : Pool) (n : ℕ) (log : Log) (x : Staged) (word : ℕ) (now : List ℕ)
         → IsLaneOf p n log → MayStage log x → Performs (Store x.at x.word) word p.words now
         → HoldsLog (after_flow p now) n log }
-    ensures flowing { (p : Pool) (n : ℕ) (log : Log) (staged all : List Staged) (i : ℕ) (x : Staged)
-        (word : ℕ) (now : List ℕ) → IsLaneOf p n log → MayStageAll log all → GoApart all
+    ensures flowing { (p : Pool) (n : ℕ) (log : Log) (staged all : List Staged) (i : ℕ)
+        (x : Staged) (word : ℕ) (now : List ℕ) → IsLaneOf p n log → MayStageAll log all → GoApart all
         → AreFlowing p.words staged all → slice_get staged i ≡ Some x
         → Performs (Store x.at x.word) word p.words now → AreFlowing now (remove staged i) all }
 {}
@@ -91,10 +93,12 @@ pub fn claim()
         → HoldsLog (after_claim p n now) n (record log { spare = Some word }) }
     ensures miss_step { (p : Pool) (n word : ℕ) (now : List ℕ) → IsWhole p → IsLane n
         → (store_in p).segment_count < 2 ^ 64 - 1
-        → Performs (Add segment_counter_at 1) word p.words now → IsStepBy (by_lane n) p (after_miss p now) }
+        → Performs (Add segment_counter_at 1) word p.words now
+        → IsStepBy (by_lane n) p (after_miss p now) }
     ensures miss_quiet { (p : Pool) (now : List ℕ) → IsQuiet p (after_miss p now) }
     ensures miss_log { (p : Pool) (n : ℕ) (log : Log) (word : ℕ) (now : List ℕ) → IsLaneOf p n log
-        → Performs (Add segment_counter_at 1) word p.words now → HoldsLog (after_miss p now) n log }
+        → Performs (Add segment_counter_at 1) word p.words now
+        → HoldsLog (after_miss p now) n log }
 {}
 
 /// An exchange that finds another word leaves all words as they are.
@@ -108,7 +112,8 @@ pub fn raise()
     ensures step { (p : Pool) (n old stamp : ℕ) (now : List ℕ) → IsWhole p → IsLane n
         → IsExchanged p n old stamp (gate_of old).len now
         → IsStepBy (by_lane n) p (after_raise p n old stamp now) }
-    ensures quiet { (p : Pool) (n old stamp : ℕ) (now : List ℕ) → IsQuiet p (after_raise p n old stamp now) }
+    ensures quiet { (p : Pool) (n old stamp : ℕ) (now : List ℕ)
+        → IsQuiet p (after_raise p n old stamp now) }
     ensures log { (p : Pool) (n : ℕ) (log : Log) (old stamp : ℕ) (now : List ℕ) → IsLaneOf p n log
         → IsExchanged p n old stamp (gate_of old).len now
         → HoldsLog (after_raise p n old stamp now) n log }
@@ -119,23 +124,28 @@ pub fn raise()
 /// A lane seals a put or delete, all of whose words stand in the pool: the gate gets the plan's length, the log its
 /// records, and at the key it is held then what the record says. The lane has one more pending record.
 pub fn seal()
-    ensures step { (p : Pool) (n : ℕ) (log : Log) (k : ℕ) (r : Record) (old stamp : ℕ) (now : List ℕ)
-        → IsLaneOf p n log → MaySeal p n log k r → IsExchanged p n old stamp (plan_for log r).len now
+    ensures step { (p : Pool) (n : ℕ) (log : Log) (k : ℕ) (r : Record) (old stamp : ℕ)
+        (now : List ℕ) → IsLaneOf p n log → MaySeal p n log k r
+        → IsExchanged p n old stamp (plan_for log r).len now
         → IsStepBy (by_lane n) p (after_seal p n log r stamp now) }
-    ensures log { (p : Pool) (n : ℕ) (log : Log) (k : ℕ) (r : Record) (old stamp : ℕ) (now : List ℕ)
-        → IsLaneOf p n log → MaySeal p n log k r → IsExchanged p n old stamp (plan_for log r).len now
+    ensures log { (p : Pool) (n : ℕ) (log : Log) (k : ℕ) (r : Record) (old stamp : ℕ)
+        (now : List ℕ) → IsLaneOf p n log → MaySeal p n log k r
+        → IsExchanged p n old stamp (plan_for log r).len now
         → HoldsLog (after_seal p n log r stamp now) n (sealed_of log (plan_for log r)) }
-    ensures held { (p : Pool) (n : ℕ) (log : Log) (k : ℕ) (r : Record) (old stamp : ℕ) (now : List ℕ)
-        → IsLaneOf p n log → MaySeal p n log k r → IsExchanged p n old stamp (plan_for log r).len now
+    ensures held { (p : Pool) (n : ℕ) (log : Log) (k : ℕ) (r : Record) (old stamp : ℕ)
+        (now : List ℕ) → IsLaneOf p n log → MaySeal p n log k r
+        → IsExchanged p n old stamp (plan_for log r).len now
         → holds (store_in (after_seal p n log r stamp now)) k ≡ Says (value_of r) }
-    ensures others { (p : Pool) (n : ℕ) (log : Log) (k : ℕ) (r : Record) (old stamp : ℕ) (now : List ℕ)
-        (q : ℕ) (v : Option (List ℕ)) → IsLaneOf p n log → MaySeal p n log k r
-        → IsExchanged p n old stamp (plan_for log r).len now → q ≢ k → holds (store_in p) q ≡ Says v
+    ensures others { (p : Pool) (n : ℕ) (log : Log) (k : ℕ) (r : Record) (old stamp : ℕ)
+        (now : List ℕ) (q : ℕ) (v : Option (List ℕ)) → IsLaneOf p n log → MaySeal p n log k r
+        → IsExchanged p n old stamp (plan_for log r).len now → q ≢ k
+        → holds (store_in p) q ≡ Says v
         → holds (store_in (after_seal p n log r stamp now)) q ≡ Says v }
-    ensures promised { (p : Pool) (n : ℕ) (log : Log) (r : Record) (stamp : ℕ) (now : List ℕ) (q : ℕ)
-        → (after_seal p n log r stamp now).owners.promised q ≡ p.owners.promised q }
+    ensures promised { (p : Pool) (n : ℕ) (log : Log) (r : Record) (stamp : ℕ) (now : List ℕ)
+        (q : ℕ) → (after_seal p n log r stamp now).owners.promised q ≡ p.owners.promised q }
     ensures gate { (p : Pool) (n : ℕ) (log : Log) (r : Record) (stamp : ℕ) (now : List ℕ)
-        → (store_in (after_seal p n log r stamp now)).gates n ≡ open_gate stamp (plan_for log r).len }
+        → (store_in (after_seal p n log r stamp now)).gates n
+        ≡ open_gate stamp (plan_for log r).len }
     ensures logs { (p : Pool) (n : ℕ) (log : Log) (r : Record) (stamp : ℕ) (now : List ℕ)
         → (store_in (after_seal p n log r stamp now)).logs n
         ≡ (store_in p).logs n ++ placed_by (plan_for log r) r }
@@ -151,13 +161,14 @@ pub fn seal()
 pub fn ready()
     ensures { (p : Pool) (n : ℕ) (log : Log) (k : ℕ) (r : Record)
         → IsLaneOf p n log → MayWrite p n log k r
-        → (now : List ℕ) × IsLaneOf (after_flow p now) n log × MaySeal (after_flow p now) n log k r }
+        → (now : List ℕ) × IsLaneOf (after_flow p now) n log
+        × MaySeal (after_flow p now) n log k r }
 {}
 
 /// What a put or delete leaves of its log's new records: at its key itself, and nothing at others.
 pub fn added()
     ensures own { (plan : Plan) (r : Record) (k : ℕ) → is_plain r ≡ true → key_of r ≡ Some k
         → unmerged k 0 (placed_by plan r) ≡ Some r }
-    ensures other { (plan : Plan) (r : Record) (k q : ℕ) → is_plain r ≡ true → key_of r ≡ Some k → q ≢ k
-        → unmerged q 0 (placed_by plan r) ≡ None }
+    ensures other { (plan : Plan) (r : Record) (k q : ℕ) → is_plain r ≡ true → key_of r ≡ Some k
+        → q ≢ k → unmerged q 0 (placed_by plan r) ≡ None }
 {}
