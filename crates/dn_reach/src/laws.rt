@@ -74,8 +74,8 @@ pub fn flow()
         → IsLaneOf p n log → MayStage log x → Performs (Store x.at x.word) word p.words now
         → HoldsLog (after_flow p now) n log }
     ensures flowing { (p : Pool) (n : ℕ) (log : Log) (staged all : List Staged) (i : ℕ)
-        (x : Staged) (word : ℕ) (now : List ℕ) → IsLaneOf p n log → MayStageAll log all → GoApart all
-        → AreFlowing p.words staged all → slice_get staged i ≡ Some x
+        (x : Staged) (word : ℕ) (now : List ℕ) → IsLaneOf p n log → MayStageAll log all
+        → GoApart all → AreFlowing p.words staged all → slice_get staged i ≡ Some x
         → Performs (Store x.at x.word) word p.words now → AreFlowing now (remove staged i) all }
 {}
 
