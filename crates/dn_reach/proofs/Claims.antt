@@ -1,4 +1,4 @@
-use Rattle.std.proofs.Common.{ℕ, ◌+◌, ◌-◌, ◌*◌, ◌%◌, ◌^◌, ◌<◌, ◌≤◌, ◌≡◌, ◌≢◌, ◌⊎◌, ◌++◌, inl, inr, List, [], ◌∷◌, All, length, slice_index, slice_set, option_to_list, Option, Some, None, refl, sym, ◌∙◌, ap, subst, arith, append-nil}
+use Rattle.std.proofs.Common.{ℕ, ◌+◌, ◌-◌, ◌%◌, ◌^◌, ◌<◌, ◌≤◌, ◌≡◌, ◌⊎◌, ◌++◌, inl, inr, List, [], ◌∷◌, All, length, slice_index, slice_set, option_to_list, Option, Some, None, refl, sym, ◌∙◌, ap, subst, arith, append-nil}
 use Rattle.std.proofs.lemmas.Bool.{cases_lt}
 use Rattle.std.proofs.lemmas.List.{length-append, get_or_append_left, get_or-append-add}
 use Rattle.std.proofs.lemmas.List.Elements.{All-get_or, All-push}
@@ -21,7 +21,7 @@ use Rattle.dn_beside.specs.Pool.{Pool, store_in, IsWhole}
 use Rattle.dn_beside.specs.Step.{IsStepBy, IsQuiet, by_lane}
 use Rattle.dn_reach.specs.Directory.{NamesSegments}
 use Rattle.dn_reach.specs.OwnLog.{HoldsLog, IsLaneOf}
-use Rattle.dn_reach.specs.Sealing.{claims, misses}
+use Rattle.dn_reach.specs.Steps.{after_claim, after_miss}
 use Rattle.dn_reach.proofs.Flows.{later_same}
 use Rattle.dn_reach.proofs.Lasts.{directory_kept}
 use Rattle.dn_reach.proofs.OwnSteps.{IsOwnStep, own_step, stored_alike, low_not_of}
@@ -78,7 +78,7 @@ wanted_later : (o : Owners) → IsLater o o → IsLater o (record o { store = se
 wanted_later o l = record { logs = l.logs; gates = l.gates; marks = l.marks; epochs = l.epochs; floors = l.floors; promised = l.promised }
 
 -- ---- as others see it
-claim_own : (p : Pool) (n word : ℕ) (now : List ℕ) → IsWhole p → IsLane n → word < (store_in p).pool → IsCounted p word now → IsOwnStep n segment_counter_at p (claims p n now)
+claim_own : (p : Pool) (n word : ℕ) (now : List ℕ) → IsWhole p → IsLane n → word < (store_in p).pool → IsCounted p word now → IsOwnStep n segment_counter_at p (after_claim p n now)
 claim_own p n word now h lane low c =
     let s = store_in p in
     let P : List ℕ → Type 0 = λ ws. Represents ws p.chains (claimed s n) in
@@ -106,7 +106,7 @@ claim_own p n word now h lane low c =
       located = λ m k l r d look slot clear a. a;
     }
 
-miss_own : (p : Pool) (n word : ℕ) (now : List ℕ) → IsWhole p → IsLane n → IsCounted p word now → IsOwnStep n segment_counter_at p (misses p now)
+miss_own : (p : Pool) (n word : ℕ) (now : List ℕ) → IsWhole p → IsLane n → IsCounted p word now → IsOwnStep n segment_counter_at p (after_miss p now)
 miss_own p n word now h lane c =
     let s = store_in p in
     let P : List ℕ → Type 0 = λ ws. Represents ws p.chains (segment_wanted s) in
@@ -134,16 +134,16 @@ miss_own p n word now h lane c =
       located = λ m k l r d look slot clear a. a;
     }
 
-pub claim_step : (p : Pool) (n word : ℕ) (now : List ℕ) → IsWhole p → IsLane n → (store_in p).segment_count < 2 ^ 64 - 1 → Performs (Add segment_counter_at 1) word p.words now → word < (store_in p).pool → IsStepBy (by_lane n) p (claims p n now)
-claim_step p n word now h l few f low = own_step n segment_counter_at p (claims p n now) (claim_own p n word now h l low (counted p word now h few f))
+pub claim_step : (p : Pool) (n word : ℕ) (now : List ℕ) → IsWhole p → IsLane n → (store_in p).segment_count < 2 ^ 64 - 1 → Performs (Add segment_counter_at 1) word p.words now → word < (store_in p).pool → IsStepBy (by_lane n) p (after_claim p n now)
+claim_step p n word now h l few f low = own_step n segment_counter_at p (after_claim p n now) (claim_own p n word now h l low (counted p word now h few f))
 
-pub miss_step : (p : Pool) (n word : ℕ) (now : List ℕ) → IsWhole p → IsLane n → (store_in p).segment_count < 2 ^ 64 - 1 → Performs (Add segment_counter_at 1) word p.words now → IsStepBy (by_lane n) p (misses p now)
-miss_step p n word now h l few f = own_step n segment_counter_at p (misses p now) (miss_own p n word now h l (counted p word now h few f))
+pub miss_step : (p : Pool) (n word : ℕ) (now : List ℕ) → IsWhole p → IsLane n → (store_in p).segment_count < 2 ^ 64 - 1 → Performs (Add segment_counter_at 1) word p.words now → IsStepBy (by_lane n) p (after_miss p now)
+miss_step p n word now h l few f = own_step n segment_counter_at p (after_miss p now) (miss_own p n word now h l (counted p word now h few f))
 
-pub claim_quiet : (p : Pool) (n : ℕ) (now : List ℕ) → IsQuiet p (claims p n now)
+pub claim_quiet : (p : Pool) (n : ℕ) (now : List ℕ) → IsQuiet p (after_claim p n now)
 claim_quiet p n now = record { held = λ k v pos h. h; promised = λ k. refl }
 
-pub miss_quiet : (p : Pool) (now : List ℕ) → IsQuiet p (misses p now)
+pub miss_quiet : (p : Pool) (now : List ℕ) → IsQuiet p (after_miss p now)
 miss_quiet p now = record { held = λ k v pos h. h; promised = λ k. refl }
 
 -- ---- the lane's log
@@ -151,7 +151,7 @@ counter_directory : (p : Pool) (log : Log) (new : ℕ) → IsFit log → NamesSe
 counter_directory p log new fit d = directory_kept p.words (slice_set p.words segment_counter_at new) log.lane log refl fit
     (λ q lt. word_at-set_other p.words segment_counter_at (directory_at log.lane q) new (λ e. absurd (omega (arith, e)))) d
 
-pub miss_log : (p : Pool) (n : ℕ) (log : Log) (word : ℕ) (now : List ℕ) → IsLaneOf p n log → Performs (Add segment_counter_at 1) word p.words now → HoldsLog (misses p now) n log
+pub miss_log : (p : Pool) (n : ℕ) (log : Log) (word : ℕ) (now : List ℕ) → IsLaneOf p n log → Performs (Add segment_counter_at 1) word p.words now → HoldsLog (after_miss p now) n log
 miss_log p n log word now h f =
     let s = h.own in
     let P : List ℕ → Type 0 = λ ws. NamesSegments ws log in
@@ -219,7 +219,7 @@ own_only p n log h e few =
     }
 
 pub claim_log : (p : Pool) (n : ℕ) (log : Log) (word : ℕ) (now : List ℕ) → IsLaneOf p n log → (store_in p).segment_count < 2 ^ 64 - 1 → log.spare ≡ None → length log.segments < 256
-    → Performs (Add segment_counter_at 1) word p.words now → word < (store_in p).pool → HoldsLog (claims p n now) n (record log { spare = Some word })
+    → Performs (Add segment_counter_at 1) word p.words now → word < (store_in p).pool → HoldsLog (after_claim p n now) n (record log { spare = Some word })
 claim_log p n log word now h few none room f low =
     let s = h.own in
     let o = own_only p n log h none room in

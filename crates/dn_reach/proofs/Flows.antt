@@ -1,8 +1,8 @@
-use Rattle.std.proofs.Common.{ℕ, zero, suc, ◌+◌, ◌*◌, ◌/◌, ◌%◌, ◌<◌, ◌≤◌, ◌≡◌, ◌≢◌, ◌⊎◌, ◌++◌, inl, inr, List, [], ◌∷◌, All, Contains, length, slice_index, slice_get, get_or, slice_set, Option, Some, None, refl, sym, ◌∙◌, ap, subst, arith, append-nil}
+use Rattle.std.proofs.Common.{ℕ, zero, suc, ◌+◌, ◌*◌, ◌/◌, ◌%◌, ◌<◌, ◌≤◌, ◌≡◌, ◌≢◌, ◌⊎◌, inl, inr, List, [], ◌∷◌, Contains, length, slice_index, slice_get, get_or, slice_set, Some, refl, sym, ◌∙◌, ap, subst, arith, append-nil}
 use Rattle.std.specs.List.{remove}
 use Rattle.std.proofs.lemmas.Bool.{cases_eq, cases_lt}
 use Rattle.std.proofs.lemmas.Nat.{mod_below}
-use Rattle.std.proofs.lemmas.List.{set-get_or, get_or_default}
+use Rattle.std.proofs.lemmas.List.{get_or_default}
 use Rattle.std.proofs.lemmas.List.Elements.{All-get_or}
 use Rattle.dn_act.specs.Words.{word_at}
 use Rattle.dn_act.specs.Action.{Performs}
@@ -19,13 +19,13 @@ use Rattle.dn_owners.specs.Later.{IsLater}
 use Rattle.dn_owners.proofs.Grown.{risen_same}
 use Rattle.dn_owners.proofs.Ats.{same_some, none_some}
 use Rattle.dn_owners.proofs.Logs.{nil_has, tail_has, cons_cases}
-use Rattle.dn_beside.specs.Pool.{Pool, store_in, IsWhole}
+use Rattle.dn_beside.specs.Pool.{Pool, store_in}
 use Rattle.dn_beside.specs.Step.{IsStepBy, IsQuiet, by_lane}
 use Rattle.dn_reach.specs.Directory.{NamesSegments}
 use Rattle.dn_reach.specs.OwnLog.{HoldsLog, IsLaneOf}
-use Rattle.dn_reach.specs.Staging.{IsDirectoryWord, IsLogWord, MayStage, MayStageAll, AreFlowing}
-use Rattle.dn_reach.specs.Sealing.{flowed}
-use Rattle.dn_reach.proofs.Within.{few_segments, reach_longer, spare_last, directory_inside, may_past, may_outside, may_below}
+use Rattle.dn_reach.specs.Staging.{IsDirectoryWord, MayStage, MayStageAll, AreFlowing}
+use Rattle.dn_reach.specs.Steps.{after_flow}
+use Rattle.dn_reach.proofs.Within.{reach_longer, spare_last, directory_inside, may_outside, may_below}
 use Rattle.dn_reach.proofs.Lasts.{directory_kept}
 use Rattle.dn_reach.proofs.OwnSteps.{IsNotOf, IsOwnStep, own_step, stored_alike, directory_not_of, segment_not_of}
 
@@ -131,7 +131,7 @@ later_same p = record {
   promised = λ k. omega arith;
 }
 
-flow_own : (p : Pool) (n : ℕ) (log : Log) (x : Staged) (now : List ℕ) → IsFlow p n log x now → IsOwnStep n x.at p (flowed p now)
+flow_own : (p : Pool) (n : ℕ) (log : Log) (x : Staged) (now : List ℕ) → IsFlow p n log x now → IsOwnStep n x.at p (after_flow p now)
 flow_own p n log x now f =
     let h = f.of.whole in
     let P : List ℕ → Type 0 = λ ws. Represents ws p.chains (store_in p) in
@@ -159,10 +159,10 @@ flow_own p n log x now f =
       located = λ m k l r d look slot clear a. a;
     }
 
-pub flow_step : (p : Pool) (n : ℕ) (log : Log) (x : Staged) (word : ℕ) (now : List ℕ) → IsLaneOf p n log → MayStage log x → Performs (Store x.at x.word) word p.words now → IsStepBy (by_lane n) p (flowed p now)
-flow_step p n log x word now h m f = own_step n x.at p (flowed p now) (flow_own p n log x now (flow_of p n log x word now h m f))
+pub flow_step : (p : Pool) (n : ℕ) (log : Log) (x : Staged) (word : ℕ) (now : List ℕ) → IsLaneOf p n log → MayStage log x → Performs (Store x.at x.word) word p.words now → IsStepBy (by_lane n) p (after_flow p now)
+flow_step p n log x word now h m f = own_step n x.at p (after_flow p now) (flow_own p n log x now (flow_of p n log x word now h m f))
 
-pub flow_quiet : (p : Pool) (now : List ℕ) → IsQuiet p (flowed p now)
+pub flow_quiet : (p : Pool) (now : List ℕ) → IsQuiet p (after_flow p now)
 flow_quiet p now = record { held = λ k v pos h. h; promised = λ k. refl }
 
 -- ---- the lane's own log
@@ -182,7 +182,7 @@ spare_directory words log x long names d =
         | inl e ↦ (
           omega (arith, e, reach_longer log d.segment d.is_spare),
           (let P : ℕ → Type 0 = λ m. directory now log.lane m ≡ slice_index (reach_of log) m + 1 in
-          subst P (sym e) (here ∙ d.word_is ∙ ap (λ g. g + 1) (sym (spare_last log d.segment d.is_spare)))),
+              subst P (sym e) (here ∙ d.word_is ∙ ap (λ g. g + 1) (sym (spare_last log d.segment d.is_spare)))),
         )
         | inr f ↦ (let m = names.no_more q l (omega (arith, pos, other q f)) in (m.0, other q f ∙ m.1))
       ];
@@ -196,7 +196,7 @@ flow_directory p n log x h (inr w) =
     directory_kept p.words (slice_set p.words x.at x.word) log.lane log refl h.own.fit
     (λ q lt. word_at-set_other p.words x.at (directory_at log.lane q) x.word (λ e. absurd (omega (arith, e, lt, h.own.fit.lane, w.at_is, word_of-past log w.offset)))) h.own.directory
 
-pub flow_log : (p : Pool) (n : ℕ) (log : Log) (x : Staged) (word : ℕ) (now : List ℕ) → IsLaneOf p n log → MayStage log x → Performs (Store x.at x.word) word p.words now → HoldsLog (flowed p now) n log
+pub flow_log : (p : Pool) (n : ℕ) (log : Log) (x : Staged) (word : ℕ) (now : List ℕ) → IsLaneOf p n log → MayStage log x → Performs (Store x.at x.word) word p.words now → HoldsLog (after_flow p now) n log
 flow_log p n log x word now h m f =
     let s = h.own in
     let P : List ℕ → Type 0 = λ ws. NamesSegments ws log in
@@ -211,7 +211,7 @@ flow_log p n log x word now h m f =
     }
 
 -- ---- and the words that are on their way are one less
-head_is : {X : Type 0} (x : X) (xs : List X) (y : X) → x ≡ y → Contains (x ∷ xs) y
+pub head_is : {X : Type 0} (x : X) (xs : List X) (y : X) → x ≡ y → Contains (x ∷ xs) y
 head_is x xs y e = (0, omega arith, e)
 
 -- without the element at i

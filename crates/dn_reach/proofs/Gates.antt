@@ -1,4 +1,4 @@
-use Rattle.std.proofs.Common.{ℕ, ◌+◌, ◌*◌, ◌/◌, ◌%◌, ◌^◌, ◌<◌, ◌≤◌, ◌≡◌, ◌≢◌, ◌⊎◌, inl, inr, true, false, nat_eq, if◌then◌else◌, List, [], slice_set, refl, sym, ◌∙◌, ap, subst, arith}
+use Rattle.std.proofs.Common.{ℕ, ◌^◌, ◌<◌, ◌≡◌, ◌≢◌, inl, nat_eq, if◌then◌else◌, List, slice_set, refl, sym, ◌∙◌, ap, subst, arith}
 use Rattle.std.proofs.lemmas.Bool.{eq-eqb, ne_eqb}
 use Rattle.std.proofs.lemmas.Bool.Decides.{nat_tests}
 use Rattle.std.proofs.lemmas.List.{set-get_or}
@@ -9,23 +9,22 @@ use Rattle.dn_act.specs.Action.{Performs}
 use Rattle.dn_act.specs.declared.actions.Action.TheVariants.{Cas}
 use Rattle.dn_act.proofs.Words.{word_at-set_other}
 use Rattle.dn_log.specs.Log.{Log, IsFit}
-use Rattle.dn_model.specs.Regions.{gate_at, directory, directory_at, IsLane}
-use Rattle.dn_store.specs.State.{with_at}
+use Rattle.dn_model.specs.Regions.{gate_at, directory_at, IsLane}
 use Rattle.dn_store.specs.Changes.{gated}
 use Rattle.dn_store.specs.Represents.{Represents}
 use Rattle.dn_store.proofs.At.{at_same, at_other}
 use Rattle.dn_store.proofs.Lanes.{regate}
-use Rattle.dn_owners.specs.Events.{Event, Raise, happens}
+use Rattle.dn_owners.specs.Events.{Event, Raise}
 use Rattle.dn_owners.specs.Given.{IsExchange, IsGiven}
 use Rattle.dn_owners.proofs.Logs.{ordered}
 use Rattle.dn_owners.proofs.Grown.{later}
-use Rattle.dn_owners.proofs.Tables.{kept, held_after, located}
+use Rattle.dn_owners.proofs.Tables.{kept, located}
 use Rattle.dn_beside.specs.Pool.{Pool, store_in, IsWhole}
 use Rattle.dn_beside.specs.Step.{IsStepBy, IsQuiet, by_lane}
 use Rattle.dn_reach.specs.Directory.{NamesSegments}
 use Rattle.dn_reach.specs.OwnLog.{HoldsLog, IsLaneOf}
 use Rattle.dn_reach.specs.Exchange.{open_gate, IsExchanged}
-use Rattle.dn_reach.specs.Sealing.{raised}
+use Rattle.dn_reach.specs.Steps.{after_raise}
 use Rattle.dn_reach.proofs.Lasts.{directory_kept}
 use Rattle.dn_reach.proofs.OwnSteps.{IsOwnStep, own_step, stored_alike, low_not_of}
 
@@ -84,7 +83,7 @@ raise_represents p n old stamp now h l g =
     subst P (sym g.stored) (subst Q g.reads (regate p.words p.chains (store_in p) n (gate_word (open_gate stamp (gate_of old).len)) h.represents l
     (ap (λ (x : Gate). x.len) g.reads ∙ ap (λ (x : Gate). x.len) g.was)))
 
-raise_own : (p : Pool) (n old stamp : ℕ) (now : List ℕ) → IsWhole p → IsLane n → IsGateStored p n old stamp (gate_of old).len now → IsOwnStep n (gate_at n) p (raised p n old stamp now)
+raise_own : (p : Pool) (n old stamp : ℕ) (now : List ℕ) → IsWhole p → IsLane n → IsGateStored p n old stamp (gate_of old).len now → IsOwnStep n (gate_at n) p (after_raise p n old stamp now)
 raise_own p n old stamp now h lane g =
     let s = store_in p in
     let gate : Gate = open_gate stamp (gate_of old).len in
@@ -118,13 +117,13 @@ raise_own p n old stamp now h lane g =
 gate_short : (old : ℕ) → (gate_of old).len < 2 ^ 24
 gate_short old = omega arith
 
-pub raise_step : (p : Pool) (n old stamp : ℕ) (now : List ℕ) → IsWhole p → IsLane n → IsExchanged p n old stamp (gate_of old).len now → IsStepBy (by_lane n) p (raised p n old stamp now)
-raise_step p n old stamp now h l x = own_step n (gate_at n) p (raised p n old stamp now) (raise_own p n old stamp now h l (gate_stored p n old stamp (gate_of old).len now h l (gate_short old) x))
+pub raise_step : (p : Pool) (n old stamp : ℕ) (now : List ℕ) → IsWhole p → IsLane n → IsExchanged p n old stamp (gate_of old).len now → IsStepBy (by_lane n) p (after_raise p n old stamp now)
+raise_step p n old stamp now h l x = own_step n (gate_at n) p (after_raise p n old stamp now) (raise_own p n old stamp now h l (gate_stored p n old stamp (gate_of old).len now h l (gate_short old) x))
 
-pub raise_quiet : (p : Pool) (n old stamp : ℕ) (now : List ℕ) → IsQuiet p (raised p n old stamp now)
+pub raise_quiet : (p : Pool) (n old stamp : ℕ) (now : List ℕ) → IsQuiet p (after_raise p n old stamp now)
 raise_quiet p n old stamp now = record { held = λ k v pos h. h; promised = λ k. refl }
 
-pub raise_log : (p : Pool) (n : ℕ) (log : Log) (old stamp : ℕ) (now : List ℕ) → IsLaneOf p n log → IsExchanged p n old stamp (gate_of old).len now → HoldsLog (raised p n old stamp now) n log
+pub raise_log : (p : Pool) (n : ℕ) (log : Log) (old stamp : ℕ) (now : List ℕ) → IsLaneOf p n log → IsExchanged p n old stamp (gate_of old).len now → HoldsLog (after_raise p n old stamp now) n log
 raise_log p n log old stamp now h x =
     let s = h.own in
     let gate : Gate = open_gate stamp (gate_of old).len in
@@ -141,5 +140,5 @@ raise_log p n log old stamp now h x =
     }
 
 -- the gate then is the one that was stored
-pub raise_gate : (p : Pool) (n old stamp : ℕ) (now : List ℕ) → (store_in (raised p n old stamp now)).gates n ≡ open_gate stamp (gate_of old).len
+pub raise_gate : (p : Pool) (n old stamp : ℕ) (now : List ℕ) → (store_in (after_raise p n old stamp now)).gates n ≡ open_gate stamp (gate_of old).len
 raise_gate p n old stamp now = at_same (store_in p).gates n (open_gate stamp (gate_of old).len) n refl

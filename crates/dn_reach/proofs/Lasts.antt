@@ -1,16 +1,15 @@
-use Rattle.std.proofs.Common.{ℕ, ◌+◌, ◌*◌, ◌/◌, ◌%◌, ◌<◌, ◌≤◌, ◌≡◌, ◌⊎◌, ◌++◌, inl, inr, List, [], ◌∷◌, All, length, slice_index, option_to_list, Option, Some, refl, sym, ◌∙◌, ap, subst, arith, Contains}
+use Rattle.std.proofs.Common.{ℕ, ◌+◌, ◌*◌, ◌/◌, ◌%◌, ◌<◌, ◌≤◌, ◌≡◌, inl, inr, List, length, slice_index, refl, sym, ◌∙◌, ap, subst, arith}
 use Rattle.std.proofs.lemmas.Nat.{mod_below}
-use Rattle.std.proofs.lemmas.List.{length-append}
-use Rattle.std.proofs.lemmas.List.Elements.{All-get_or}
+use Rattle.std.proofs.lemmas.List.Elements.{All-get_or, All-nil}
 use Rattle.dn_act.specs.Words.{word_at}
-use Rattle.dn_log.specs.Log.{Log, reach_of, word_of, IsFit}
+use Rattle.dn_log.specs.Log.{Log, reach_of, IsFit}
 use Rattle.dn_log.specs.declared.staging.Staged.{Staged}
-use Rattle.dn_model.specs.Regions.{directory, directory_at}
+use Rattle.dn_model.specs.Regions.{directory, directory_at, IsLane}
 use Rattle.dn_beside.specs.Pool.{Pool, store_in}
 use Rattle.dn_beside.specs.Lanes.{LeavesOwn}
 use Rattle.dn_reach.specs.Directory.{NamesSegments}
-use Rattle.dn_reach.specs.OwnLog.{HoldsLog}
-use Rattle.dn_reach.specs.Staging.{IsDirectoryWord, IsLogWord, MayStage, MayStageAll, AreFlowing}
+use Rattle.dn_reach.specs.OwnLog.{HoldsLog, empty_log}
+use Rattle.dn_reach.specs.Staging.{MayStage, MayStageAll, AreFlowing}
 use Rattle.dn_reach.proofs.Within.{few_segments, directory_inside}
 
 -- What a lane knows of its log lasts under steps that leave its own words.
@@ -22,6 +21,21 @@ directory_kept words now n log e fit same d =
       named = λ q lt. here q (omega (arith, lt, few_segments log fit)) ∙ d.named q lt;
       no_more = λ q lt pos. let m = d.no_more q lt (omega (arith, pos, here q lt)) in (m.0, here q lt ∙ m.1);
     }
+
+-- it begins with an empty log
+nothing : (i : ℕ) → i < 0 → ⊥
+nothing i lt = omega (arith, lt)
+
+pub log_begins : (p : Pool) (n : ℕ) → IsLane n → (store_in p).pool ≤ 8192 → ((store_in p).gates n).len ≡ 0 → ((q : ℕ) → q < 256 → directory p.words n q ≡ 0) → HoldsLog p n (empty_log n (store_in p).pool)
+log_begins p n l few len none = record {
+  lane = refl;
+  pool = refl;
+  len = len;
+  fit = record { lane = l.below; pool = few; count = omega arith; len = omega arith; each = All-nil (λ g. g < (store_in p).pool) };
+  apart = record { each = λ i j il jl e. absurd (nothing i il) };
+  holders = All-nil (λ g. (store_in p).holders g ≡ n);
+  directory = record { named = λ q lt. absurd (nothing q lt); no_more = λ q lt pos. absurd (omega (arith, pos, none q lt)) };
+}
 
 pub log_lasts : (p q : Pool) (n : ℕ) (log : Log) → LeavesOwn n p q → HoldsLog p n log → HoldsLog q n log
 log_lasts p q n log l h = record {

@@ -3,5 +3,11 @@ pub mod Lasts
 pub mod OwnSteps
 pub mod Flows
 pub mod Stages
+pub mod Rooms
 pub mod Claims
 pub mod Gates
+pub mod Grown
+pub mod Tiled
+pub mod Added
+pub mod Seals
+pub mod Ready

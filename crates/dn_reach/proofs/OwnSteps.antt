@@ -1,10 +1,9 @@
-use Rattle.std.proofs.Common.{ℕ, ◌+◌, ◌*◌, ◌<◌, ◌≤◌, ◌≡◌, ◌≢◌, ◌⊎◌, inl, inr, false, List, Option, Some, refl, sym, ◌∙◌, ap, arith, slice_set}
+use Rattle.std.proofs.Common.{ℕ, ◌+◌, ◌*◌, ◌<◌, ◌≡◌, ◌≢◌, inl, false, List, Some, sym, ◌∙◌, ap, arith, slice_set}
 use Rattle.std.proofs.lemmas.Nat.{same_from_place}
 use Rattle.dn_act.specs.Words.{word_at}
 use Rattle.dn_act.proofs.Words.{word_at-set_other}
 use Rattle.dn_record.specs.declared.records.Record.{Record}
-use Rattle.dn_model.specs.Regions.{gate_at, directory_at, home_of, slot_of, IsLane}
-use Rattle.dn_model.specs.declared.logs.Placed.{Placed}
+use Rattle.dn_model.specs.Regions.{gate_at, directory_at, slot_of, IsLane}
 use Rattle.dn_model.proofs.HashLaws.{home_below}
 use Rattle.dn_store.specs.Holding.{authority_in}
 use Rattle.dn_owners.specs.Known.{Look}

@@ -1,13 +1,12 @@
-use Rattle.std.proofs.Common.{ℕ, ◌+◌, ◌*◌, ◌<◌, ◌≤◌, ◌≡◌, ◌⊎◌, ◌++◌, inl, inr, Bool, true, false, nat_lt, if◌then◌else◌, List, [], ◌∷◌, All, Contains, length, get_or, Option, Some, None, option_map, refl, sym, ◌∙◌, ap, arith}
+use Rattle.std.proofs.Common.{ℕ, ◌+◌, ◌*◌, ◌<◌, ◌≤◌, ◌≡◌, ◌++◌, inl, inr, Bool, true, false, nat_lt, if◌then◌else◌, List, [], ◌∷◌, All, Contains, length, get_or, Option, Some, None, option_map, refl, sym, ap, arith}
 use Rattle.std.proofs.lemmas.Bool.{ltb-false}
 use Rattle.std.proofs.lemmas.List.Elements.{Contains-append_cases, Contains-get_or}
 use Rattle.dn_record.specs.Grammar.{IsRecord}
-use Rattle.dn_record.specs.Record.{spelling, length_in_words, spelled_words, key_of}
+use Rattle.dn_record.specs.Record.{spelling, length_in_words, key_of}
 use Rattle.dn_record.specs.declared.records.Record.{Record}
 use Rattle.dn_record.specs.declared.records.Record.TheVariants.{Put, Delete, Share, Unshare, Loose, LooseDelete, Pad}
 use Rattle.dn_record.proofs.SpelledLemmas.{length-spelling}
 use Rattle.dn_log.specs.Log.{Log, reach_of, plan_of, start_of, rest_of, is_short, word_of, new_segment_of, IsFit, IsApart}
-use Rattle.dn_log.specs.declared.plans.Plan.{Plan}
 use Rattle.dn_log.specs.declared.plans.NewSegment.{NewSegment}
 use Rattle.dn_log.specs.declared.staging.Staged.{Staged}
 use Rattle.dn_log.proofs.PlanLaws.{start-past}
@@ -17,7 +16,7 @@ use Rattle.dn_services.specs.Staged.{placed, directory_staged, pad_staged, GoApa
 use Rattle.dn_services.proofs.ApartLaws.{staged-apart}
 use Rattle.dn_owners.proofs.Ats.{none_some}
 use Rattle.dn_owners.proofs.Logs.{nil_has, cons_cases}
-use Rattle.dn_reach.specs.Staging.{IsDirectoryWord, IsLogWord, MayStage, MayStageAll}
+use Rattle.dn_reach.specs.Staging.{IsDirectoryWord, IsLogWord, MayStageAll}
 use Rattle.dn_reach.specs.Placing.{plan_for, staged_for}
 use Rattle.dn_reach.proofs.Within.{directory_inside}
 

@@ -1,9 +1,9 @@
-use Rattle.std.proofs.Common.{ℕ, zero, suc, ◌+◌, ◌-◌, ◌*◌, ◌<◌, ◌≤◌, ◌≡◌, ◌⊎◌, ◌++◌, Bool, true, false, nat_lt, if◌then◌else◌, List, [], ◌∷◌, Contains, length, slice_index, option_to_list, Option, Some, None, option_map, inl, inr, refl, sym, ◌∙◌, ap, arith}
+use Rattle.std.proofs.Common.{ℕ, ◌+◌, ◌*◌, ◌<◌, ◌≤◌, ◌≡◌, ◌⊎◌, ◌++◌, [], ◌∷◌, length, slice_index, option_to_list, Option, Some, inl, inr, ◌∙◌, ap, arith}
 use Rattle.std.proofs.lemmas.List.{length-append, get_or-append-add}
 use Rattle.dn_log.specs.Log.{Log, reach_of, IsFit}
 use Rattle.dn_log.specs.declared.staging.Staged.{Staged}
 use Rattle.dn_log.proofs.WordLaws.{word_of-past, word_of-below}
-use Rattle.dn_reach.specs.Staging.{IsDirectoryWord, IsLogWord, MayStage}
+use Rattle.dn_reach.specs.Staging.{IsDirectoryWord, MayStage}
 
 -- Where the words go that a lane may stage.
 

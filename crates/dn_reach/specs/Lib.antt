@@ -4,3 +4,4 @@ pub mod Staging
 pub mod Placing
 pub mod Exchange
 pub mod Sealing
+pub mod Steps

@@ -1,4 +1,4 @@
-use Rattle.std.specs.Prelude.{◌≡◌, ℕ, All}
+use Rattle.std.specs.Prelude.{◌≡◌, ℕ, [], All, None}
 use Rattle.dn_log.specs.Log.{Log, reach_of, IsFit, IsApart}
 use Rattle.dn_model.specs.Regions.{IsLane}
 use Rattle.dn_beside.specs.Pool.{Pool, store_in, IsWhole}
@@ -13,6 +13,10 @@ pub record HoldsLog (p : Pool) (n : ℕ) (log : Log) : Type 0 where
   pub apart : IsApart (reach_of log)
   pub holders : All (λ g. (store_in p).holders g ≡ n) (reach_of log)
   pub directory : NamesSegments p.words log
+
+-- the log of a lane that has written nothing yet
+abbrev pub empty_log : ℕ → ℕ → Log
+empty_log lane pool = record { lane = lane; pool = pool; len = 0; segments = []; spare = None }
 
 -- a lane of a whole pool, with this log
 pub record IsLaneOf (p : Pool) (n : ℕ) (log : Log) : Type 0 where

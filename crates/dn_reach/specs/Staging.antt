@@ -1,4 +1,4 @@
-use Rattle.std.specs.Prelude.{◌≡◌, ◌⊎◌, ◌≤◌, ◌<◌, ℕ, ◌+◌, ◌*◌, List, length, Contains, Option, Some}
+use Rattle.std.specs.Prelude.{◌≡◌, ◌⊎◌, ◌≤◌, ◌<◌, ℕ, ◌+◌, ◌*◌, List, length, Contains, Some}
 use Rattle.dn_word.specs.Regions.{directory_at}
 use Rattle.dn_act.specs.Words.{word_at}
 use Rattle.dn_log.specs.Log.{Log, reach_of, word_of}
