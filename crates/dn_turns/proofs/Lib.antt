@@ -6,3 +6,5 @@ pub mod Passes
 pub mod Lasts
 pub mod Claims
 pub mod Steps
+pub mod Room
+pub mod Fits
