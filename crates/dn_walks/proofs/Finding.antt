@@ -6,7 +6,6 @@ use Rattle.dn_word.specs.declared.packed.place.Ref.{Ref}
 use Rattle.dn_act.specs.Action.{at_of, Performs}
 use Rattle.dn_act.specs.Words.{word_at}
 use Rattle.dn_model.specs.Regions.{bucket, bucket_at}
-use Rattle.dn_index.specs.declared.places.Spot.{Spot}
 use Rattle.dn_index.specs.declared.places.Trail.{Trail}
 use Rattle.dn_index.specs.declared.places.Errand.{Errand}
 use Rattle.dn_index.specs.declared.places.Errand.TheVariants.{Find, Set, Remove}
@@ -16,7 +15,7 @@ use Rattle.dn_index.specs.declared.places.Step.TheVariants.{On}
 use Rattle.dn_index.specs.Walk.{spot, trail, place_at, next_at, noted, past, names_bucket, onward, at_end, step_at, found}
 use Rattle.dn_store.specs.State.{StoreState}
 use Rattle.dn_store.specs.Represents.{Represents}
-use Rattle.dn_walks.specs.Trails.{Tracks, IsMet}
+use Rattle.dn_walks.specs.Trails.{Tracks}
 use Rattle.dn_walks.specs.Finding.{KnowsFind, AnswersFind, KnowsFound}
 use Rattle.dn_walks.proofs.Trails.{spot_of, tracks_past, tracks_none, next_none, tracks_on, met_index}
 

@@ -1,4 +1,4 @@
-use Rattle.std.proofs.Common.{ℕ, ◌+◌, ◌<◌, ◌≡◌, ◌≢◌, inl, inr, List, [], ◌∷◌, ◌++◌, Contains, Option, Some, None, refl, sym, ◌∙◌, ap, subst, arith, append_assoc, append-nil}
+use Rattle.std.proofs.Common.{ℕ, ◌≡◌, List, ◌∷◌, ◌++◌, Contains, sym, ◌∙◌, ap, subst, append_assoc}
 use Rattle.std.proofs.lemmas.List.Elements.{Contains-append_right, Contains-append_left}
 use Rattle.dn_model.specs.Regions.{bucket, home_of}
 use Rattle.dn_index.specs.declared.places.Spot.{Spot}
@@ -24,7 +24,7 @@ spot_more chains after k s more e h = record { i = h.i; number = h.number; place
 pub tracks_last : (k : ℕ) (t : Trail) (number : ℕ) (p q : Pool) → IsPathKept k p q → Tracks p.words p.chains k t number → Tracks q.words q.chains k t number
 tracks_last k t number p q u h =
     let whole : home_of k ∷ q.chains (home_of k) ≡ h.front ++ t.bucket ∷ (h.rest ++ u.more) =
-        ap (λ x. home_of k ∷ x) u.grows ∙ ap (λ x. x ++ u.more) h.split ∙ append_assoc h.front (t.bucket ∷ h.rest) u.more in
+    ap (λ x. home_of k ∷ x) u.grows ∙ ap (λ x. x ++ u.more) h.split ∙ append_assoc h.front (t.bucket ∷ h.rest) u.more in
     let has : (b : ℕ) → Contains (h.front ++ t.bucket ∷ h.rest) b → InChain p.chains (home_of k) b = λ b m. (let P : List ℕ → Type 0 = λ x. Contains x b in subst P (sym h.split) m) in
     record {
       positive = h.positive;

@@ -1,3 +1,6 @@
 pub mod Trails
 pub mod Lasts
 pub mod Finding
+pub mod Seen
+pub mod Changing
+pub mod Keeps

@@ -1,4 +1,4 @@
-use Rattle.std.proofs.Common.{ℕ, suc, ◌+◌, ◌-◌, ◌==◌, ◌&&◌, ◌<◌, ◌≤◌, ◌≡◌, ◌≢◌, ◌⊎◌, inl, inr, Bool, true, false, nat_lt, if◌then◌else◌, List, [], ◌∷◌, ◌++◌, Contains, length, Option, Some, None, refl, sym, ◌∙◌, ap, subst, arith, append_assoc, length-append}
+use Rattle.std.proofs.Common.{ℕ, suc, ◌+◌, ◌-◌, ◌==◌, ◌<◌, ◌≤◌, ◌≡◌, ◌≢◌, inl, inr, Bool, true, false, if◌then◌else◌, List, [], ◌∷◌, ◌++◌, Contains, length, Option, Some, None, refl, sym, ◌∙◌, ap, subst, arith, append_assoc, length-append}
 use Rattle.std.proofs.lemmas.Bool.{cases_eq}
 use Rattle.std.proofs.lemmas.Bool.Decides.{nat_tests}
 use Rattle.std.proofs.lemmas.List.Elements.{Contains-append_right, Contains-append_cases}
@@ -129,16 +129,18 @@ tracks_on words chains s k t word h a z d = by_rest a.rest refl (leads_on words 
       let whole : home_of k ∷ chains (home_of k) ≡ a.front ++ t.bucket ∷ c ∷ cs = a.split ∙ ap (λ x. a.front ++ t.bucket ∷ x) e in
       let count : suc (length (chains (home_of k))) ≡ length a.front + suc (suc (length cs)) = ap length whole ∙ length-append a.front (t.bucket ∷ c ∷ cs) in
       let few = chain.few in
-      let left = a.left in
-      (λ z. absurd (omega (arith, count, few, left, z)), record {
-        positive = omega arith;
-        front = a.front ++ t.bucket ∷ [];
-        rest = cs;
-        split = whole ∙ ap (λ x. a.front ++ t.bucket ∷ x ∷ cs) w ∙ sym (append_assoc a.front (t.bucket ∷ []) (word ∷ cs));
-        behind = λ b i m il. so_far words chains k t a b i m il;
-        here = λ i il lt. absurd (omega (arith, lt));
-        left = omega (arith, left, count, few, length-append a.front (t.bucket ∷ []));
-      })
+      let left = a.left in (
+        λ z. absurd (omega (arith, count, few, left, z)),
+        record {
+          positive = omega arith;
+          front = a.front ++ t.bucket ∷ [];
+          rest = cs;
+          split = whole ∙ ap (λ x. a.front ++ t.bucket ∷ x ∷ cs) w ∙ sym (append_assoc a.front (t.bucket ∷ []) (word ∷ cs));
+          behind = λ b i m il. so_far words chains k t a b i m il;
+          here = λ i il lt. absurd (omega (arith, lt));
+          left = omega (arith, left, count, few, length-append a.front (t.bucket ∷ []));
+        },
+      )
 
 -- ---- where the key was met the index gives the word beside it
 pub met_index : (words : List ℕ) (chains : ℕ → List ℕ) (s : StoreState) (k : ℕ) (sp : Spot) → Represents words chains s → 0 < k → IsMet words chains k sp → s.index k ≡ Some (bucket words sp.bucket (sp.number + 3))

@@ -1,2 +1,4 @@
 pub mod Trails
 pub mod Finding
+pub mod IndexStep
+pub mod Changing

@@ -1,14 +1,15 @@
 //! What is so of walks, as functions without work: what each says is its contract.
 
-ghost use Rattle.std.specs.Prelude.{◌≡◌, ◌<◌, ℕ, List};
+ghost use Rattle.std.specs.Prelude.{◌≡◌, ◌<◌, ◌+◌, ◌^◌, ℕ, List, Option};
 ghost use Rattle.dn_act.specs.Action.{Performs};
-ghost use Rattle.dn_model.specs.Regions.{home_of};
+ghost use Rattle.dn_model.specs.Regions.{home_of, IsLane};
 ghost use Rattle.dn_index.specs.Walk.{Walking, begun, walk_next, walk_step};
 ghost use Rattle.dn_index.specs.declared.places.WalkPlace.{WalkPlace};
 ghost use Rattle.dn_index.specs.declared.places.Errand.{Errand as ErrandOf};
 ghost use Rattle.dn_beside.specs.Pool.{Pool, store_in, IsWhole};
-ghost use Rattle.dn_beside.specs.Chains.{IsPathKept};
+ghost use Rattle.dn_beside.specs.Chains.{IsPathKept, IsChainKept};
 ghost use Rattle.dn_walks.specs.Finding.{KnowsFind, KnowsFound};
+ghost use Rattle.dn_walks.specs.Changing.{Wants, KnowsWalk, IsWalked};
 
 /// A walk that finds a key, whatever others do to other keys, and to this one before it is found: it begins at the home
 /// bucket, leaves all words, goes on until it answers what the index gives then, and knows what it knows as long as the
@@ -25,4 +26,18 @@ pub fn finding()
         → KnowsFound p.words p.chains (store_in p).index w.key (walk_step w word) }
     ensures lasts { (p q : Pool) (k : ℕ) (place : WalkPlace) → IsPathKept k p q
         → KnowsFind p.words p.chains k place → KnowsFind q.words q.chains k place }
+{}
+
+/// The walk by which a merger sets or removes a key, whatever others do in other chains: after each of its actions the
+/// words represent a store, with other mergers' chains as they were and all other keys where they stood. It ends when
+/// the index gives what is wanted, or where no overflow bucket is left.
+pub fn changing()
+    ensures begins { (n k : ℕ) (want : Option ℕ) (errand : ErrandOf) (p : Pool) → Wants want errand
+        → KnowsWalk n k want p (begun k (home_of k) errand).place }
+    ensures steps { (n : ℕ) (want : Option ℕ) (p : Pool) (w : Walking) (word : ℕ) (now : List ℕ)
+        → IsWhole p → IsLane n → 0 < w.key → (store_in p).bucket_count + 1 < 2 ^ 64
+        → KnowsWalk n w.key want p w.place → Performs (walk_next w) word p.words now
+        → IsWalked n want p w.place w.key (walk_step w word) now }
+    ensures lasts { (n k : ℕ) (want : Option ℕ) (p q : Pool) (place : WalkPlace) → IsLane n
+        → IsChainKept n k p q → KnowsWalk n k want p place → KnowsWalk n k want q place }
 {}

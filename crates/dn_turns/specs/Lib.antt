@@ -1,0 +1,3 @@
+pub mod Knows
+pub mod Claims
+pub mod Steps
