@@ -1,2 +1,4 @@
 pub mod Sealing
 pub mod Joined
+pub mod Receipts
+pub mod Fresh

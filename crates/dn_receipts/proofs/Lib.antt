@@ -1,0 +1,4 @@
+pub mod Opened
+pub mod Joining
+pub mod Spelled
+pub mod Histories
