@@ -2,7 +2,7 @@
 
 ghost use Rattle.std.specs.Prelude.{◌≡◌, ◌≢◌, ◌++◌, ◌∷◌, [], ℕ, List, Option, Some, None};
 ghost use Rattle.std.specs.List.Sorted.{IsPermutation};
-ghost use Rattle.dn_hist.specs.Calls.{Bytes, IsWrite, key_of, found_of};
+ghost use Rattle.dn_hist.specs.Calls.{Bytes, IsWrite, key_of, found_of, reply_of, map_after};
 ghost use Rattle.dn_hist.specs.Receipt.{IsInOrder};
 ghost use Rattle.dn_hist.specs.Replay.{IsLegal, map_left};
 ghost use Rattle.dn_hist.specs.declared.calls.Call.TheVariants.{Get, Put, Delete};
@@ -16,6 +16,7 @@ ghost use Rattle.dn_beside.specs.Pool.{Pool, store_in, IsWhole};
 ghost use Rattle.dn_beside.specs.Grown.{Grows};
 ghost use Rattle.dn_receipts.specs.Joined.{Joins};
 ghost use Rattle.dn_receipts.specs.Receipts.{IsRecorded, AreReceipts, IsSpelled};
+ghost use Rattle.dn_receipts.specs.SoFar.{IsLegalSoFar};
 ghost use Rattle.dn_receipts.specs.Fresh.{fresh_pool};
 
 /// The pool that an opening leaves for 1 to 63 lanes is whole, and no call was made over it.
@@ -63,4 +64,29 @@ pub fn replies()
         → (holds (store_in q) k ≡ Says (Some value)) × (r.reply ≡ Stored) }
     ensures delete { (p q : Pool) (r : Made) (k : ℕ) → Joins p q (Some r) → r.call ≡ Delete k
         → (holds (store_in q) k ≡ Says None) × (r.reply ≡ Deleted) }
+{}
+
+/// Each step does to the pool's map what a plain map does: where none joins it stays, and a call that joins is answered
+/// by it and leaves what the plain map would.
+pub fn plain_steps()
+    ensures none { (p q : Pool) (map : Bytes) → IsWhole p → IsWhole q → Joins p q None
+        → HoldsMap p.words map → HoldsMap q.words map }
+    ensures reply { (p q : Pool) (r : Made) (map : Bytes) → IsWhole p → Joins p q (Some r)
+        → key_of r.call ≢ 0 → HoldsMap p.words map → r.reply ≡ reply_of r.call map }
+    ensures one { (p q : Pool) (r : Made) (map : Bytes) → IsWhole p → IsWhole q
+        → Joins p q (Some r) → key_of r.call ≢ 0 → HoldsMap p.words map
+        → HoldsMap q.words (map_after r.call map) }
+{}
+
+/// So receipts are legal in the order in which they came to stand, too, and the pool's map is the one that this order
+/// leaves.
+pub fn so_far()
+    ensures fresh { (words : List ℕ) (pool lanes : ℕ) (owners : ℕ → ℕ)
+        → IsFreshPool words pool lanes owners
+        → IsLegalSoFar (fresh_pool words pool lanes owners) [] }
+    ensures none { (p q : Pool) (rs : List Made) → IsWhole p → IsWhole q → Joins p q None
+        → IsLegalSoFar p rs → IsLegalSoFar q rs }
+    ensures one { (p q : Pool) (rs : List Made) (r : Made) → IsWhole p → IsWhole q
+        → Joins p q (Some r) → key_of r.call ≢ 0 → IsLegalSoFar p rs
+        → IsLegalSoFar q (rs ++ r ∷ []) }
 {}
