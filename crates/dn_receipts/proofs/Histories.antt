@@ -1,4 +1,4 @@
-use Rattle.std.proofs.Common.{ℕ, ◌+◌, ◌<◌, ◌≡◌, inl, inr, List, Option, Some, None, Contains, refl, sym, ◌∙◌, ap, arith}
+use Rattle.std.proofs.Common.{ℕ, ◌+◌, ◌≡◌, inl, inr, List, Option, None, sym, ◌∙◌, ap}
 use Rattle.std.specs.List.Sorted.{IsPermutation}
 use Rattle.dn_hist.specs.Calls.{Bytes}
 use Rattle.dn_hist.specs.Receipt.{IsInOrder}

@@ -1,4 +1,4 @@
-use Rattle.std.proofs.Common.{ℕ, ◌+◌, ◌<◌, ◌≤◌, ◌≡◌, ◌≢◌, inl, inr, true, false, List, [], ◌∷◌, ◌++◌, Option, Some, None, Contains, refl, sym, ◌∙◌, ap, subst, arith}
+use Rattle.std.proofs.Common.{ℕ, ◌<◌, ◌≤◌, ◌≡◌, ◌≢◌, inl, inr, true, false, List, [], ◌∷◌, ◌++◌, Option, Some, None, Contains, refl, sym, ◌∙◌, ap, subst, arith}
 use Rattle.std.proofs.lemmas.Bool.{cases_eq}
 use Rattle.std.proofs.lemmas.List.Elements.{Contains-push_cases}
 use Rattle.dn_hist.specs.Calls.{IsWrite, key_of, found_of}
@@ -8,7 +8,7 @@ use Rattle.dn_hist.specs.declared.calls.Reply.{Reply}
 use Rattle.dn_hist.specs.declared.calls.Reply.TheVariants.{Stored, Deleted}
 use Rattle.dn_hist.specs.declared.receipts.Receipt.{Receipt}
 use Rattle.dn_model.specs.Held.{Says}
-use Rattle.dn_model.specs.Register.{nothing, is_write, written_by, LeavesFrom, IsRightFrom, IsReadFrom, IsWriteFrom, IsRegister}
+use Rattle.dn_model.specs.Register.{nothing, is_write, written_by, LeavesFrom, IsRightFrom}
 use Rattle.dn_model.proofs.RegisterSteps.{register_same, register_read, register_write}
 use Rattle.dn_store.specs.State.{with_at}
 use Rattle.dn_store.specs.Holding.{holds}
@@ -16,8 +16,7 @@ use Rattle.dn_store.proofs.At.{at_same, at_other, at_by}
 use Rattle.dn_beside.specs.Pool.{Pool, store_in}
 use Rattle.dn_beside.specs.Grown.{Grows}
 use Rattle.dn_beside.specs.Step.{IsQuiet}
-use Rattle.dn_receipts.specs.Sealing.{record_of}
-use Rattle.dn_receipts.specs.Joined.{IsElsewhere, IsRead, IsWritten, IsEffect, IsJoined}
+use Rattle.dn_receipts.specs.Joined.{IsRead, IsWritten, IsEffect, IsJoined}
 use Rattle.dn_receipts.specs.Receipts.{IsRecorded, AreReceipts}
 use Rattle.dn_receipts.proofs.Spelled.{recorded_lasts}
 

@@ -1,11 +1,10 @@
-use Rattle.std.proofs.Common.{ℕ, ◌+◌, ◌*◌, ◌/◌, ◌%◌, ◌^◌, ◌<◌, ◌≤◌, ◌≡◌, ◌≢◌, inl, Bool, true, false, nat_eq, if◌then◌else◌, List, [], Option, Some, None, Contains, refl, sym, ◌∙◌, ap, subst, arith}
+use Rattle.std.proofs.Common.{ℕ, ◌/◌, ◌%◌, ◌^◌, ◌<◌, ◌≤◌, ◌≡◌, inl, Bool, true, false, nat_eq, if◌then◌else◌, List, [], Contains, refl, subst, arith}
 use Rattle.std.proofs.lemmas.Bool.Decides.{nat_tests}
 use Rattle.dn_word.specs.Deed.{state_of, deed_of}
-use Rattle.dn_word.specs.declared.packed.deed.Deed.{Deed}
 use Rattle.dn_word.specs.declared.packed.deed.DeedState.TheVariants.{Nobody, Owned}
 use Rattle.dn_hist.specs.declared.receipts.Receipt.{Receipt}
 use Rattle.dn_model.specs.Register.{nothing, IsRegister}
-use Rattle.dn_store.specs.Fresh.{IsFreshPool, first_deed, granted}
+use Rattle.dn_store.specs.Fresh.{IsFreshPool, first_deed}
 use Rattle.dn_store.proofs.Frames.{none_of}
 use Rattle.dn_store.proofs.Fresh.{fresh_represents}
 use Rattle.dn_owners.specs.Sound.{IsSound}

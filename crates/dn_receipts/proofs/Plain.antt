@@ -1,4 +1,4 @@
-use Rattle.std.proofs.Common.{ℕ, ◌<◌, ◌≡◌, ◌≢◌, inl, inr, List, [], ◌∷◌, ◌++◌, Option, Some, None, refl, sym, ◌∙◌, ap, subst, arith}
+use Rattle.std.proofs.Common.{ℕ, ◌<◌, ◌≡◌, ◌≢◌, inl, inr, List, [], ◌∷◌, ◌++◌, Some, None, refl, sym, ◌∙◌, ap, subst, arith}
 use Rattle.std.proofs.lemmas.Grind.{common_steps}
 use Rattle.std.proofs.lemmas.Bool.{cases_eq}
 use Rattle.std.specs.FinMap.{get, insert, remove, empty, gets}
@@ -17,7 +17,7 @@ use Rattle.dn_store.specs.Holding.{holds}
 use Rattle.dn_store.proofs.Holding.{held_is}
 use Rattle.dn_beside.specs.Pool.{Pool, store_in, IsWhole}
 use Rattle.dn_beside.specs.Step.{IsQuiet}
-use Rattle.dn_receipts.specs.Joined.{IsElsewhere, IsWritten, IsEffect, IsJoined}
+use Rattle.dn_receipts.specs.Joined.{IsElsewhere, IsEffect, IsJoined}
 use Rattle.dn_receipts.specs.SoFar.{IsLegalSoFar}
 use Rattle.dn_receipts.specs.Fresh.{fresh_pool}
 use Rattle.dn_receipts.proofs.Opened.{fresh_whole}
