@@ -1,2 +1,5 @@
 pub mod Sealing
 pub mod Joined
+pub mod Receipts
+pub mod SoFar
+pub mod Fresh

@@ -1,0 +1,5 @@
+pub mod Opened
+pub mod Joining
+pub mod Spelled
+pub mod Histories
+pub mod Plain
