@@ -1,24 +1,22 @@
-use Rattle.std.proofs.Common.{ℕ, ◌+◌, ◌≤◌, ◌<◌, ◌≡◌, ◌≢◌, ◌⊎◌, inl, inr, Bool, true, false, nat_le, nat_eq, cond, if◌then◌else◌, List, [], ◌∷◌, ◌++◌, map, Contains, Option, Some, None, refl, sym, ◌∙◌, ap, subst, arith, slice_index}
+use Rattle.std.proofs.Common.{ℕ, ◌+◌, ◌≤◌, ◌<◌, ◌≡◌, ◌≢◌, inl, inr, Bool, true, false, nat_eq, if◌then◌else◌, List, [], ◌∷◌, map, Contains, Option, Some, None, refl, sym, ◌∙◌, ap, subst, arith, slice_index}
 use Rattle.std.proofs.lemmas.Bool.Decides.{nat_tests}
 use Rattle.std.specs.Option.{option_map}
 use Rattle.dn_word.specs.declared.packed.place.Ref.{Ref}
 use Rattle.dn_model.specs.Regions.{slot_of}
 use Rattle.dn_model.specs.declared.logs.Placed.{Placed}
-use Rattle.dn_model.specs.Held.{entry_at, record_at}
-use Rattle.dn_store.specs.State.{StoreState}
+use Rattle.dn_model.specs.Held.{entry_at}
 use Rattle.dn_pending.specs.Entries.{last_of}
 use Rattle.dn_known.specs.State.{KnownState}
 use Rattle.dn_known.specs.Counting.{count_of, at_least, place_of, pending_of}
-use Rattle.dn_owners.specs.declared.plain.Pending.{Pending}
 use Rattle.dn_owners.specs.Counting.{pending_from, last_counting}
-use Rattle.dn_owners.specs.Known.{Look, Learnt, Knows}
-use Rattle.dn_owners.specs.Sound.{Rise, IsOrdered, Owns, IsHeld, IsLearnt, IsSound}
+use Rattle.dn_owners.specs.Known.{Learnt}
+use Rattle.dn_owners.specs.Sound.{Rise, IsOrdered, Owns, IsHeld, IsLearnt}
 use Rattle.dn_owners.specs.Merging.{IsRecordOf}
 use Rattle.dn_owners.proofs.Ats.{same_some, none_some}
 use Rattle.dn_owners.proofs.Logs.{nil_has, cons_cases, rise_from, ordered}
 use Rattle.dn_owners.proofs.Counting.{counting_some, counting_none}
 use Rattle.dn_beside.specs.Pool.{Pool, store_in, IsWhole}
-use Rattle.dn_learnt.specs.Learning.{IsMet, Learns, pending_by}
+use Rattle.dn_learnt.specs.Learning.{IsMet, pending_by}
 use Rattle.dn_learnt.specs.Pendings.{MayAsk, IsPendingAt, HasNone}
 use Rattle.dn_learnt.proofs.Lasts.{Rises, pending_rises, counted_at, counted_by, counted_last}
 
@@ -87,19 +85,17 @@ lane_is : (k : KnownState) (o : Option ℕ) (at : Ref) → option_map (place_of 
 lane_is k None at e = absurd (none_some at e)
 lane_is k (Some x) at e = sym (ap (λ (r : Ref). r.lane) (same_some (place_of k x) at e))
 
-pub pending_is : (p : Pool) (n key : ℕ) (k : KnownState) (at : Ref) → IsWhole p → slot_of key < 64 → k.log.lane ≡ n → MayAsk p n key k → pending_of k key ≡ Some at → IsPendingAt p key at
+pub pending_is : (p : Pool) (n key : ℕ) (k : KnownState) (at : Ref) → IsWhole p → slot_of key < 64 → k.log.lane ≡ n → MayAsk p n key k → pending_of k key ≡ Some at → IsPendingAt p n key at
 pending_is p n key k at h lt lane a e =
     let i : IsNow p n key k = is_now p n key k h lt a in
     let order : IsOrdered p.owners.store.logs p.owners.store.gates p.owners.store.marks = ordered p.words p.chains p.owners.store h.represents in
     let r : IsRecordOf p.owners n key (counted_at key at.offset) = counting_some p.owners n key i.learnt (counted_at key at.offset) order h.sound i.owns i.is i.now
-        (last_is p n key k i h a ∙ counted_some k key (at_least (count_of k key) (last_of key k.pending.entries)) at e) in
-    let found : entry_at r.of.offset (p.owners.store.logs n) ≡ Some r.of.entry = entry_has 0 (p.owners.store.logs n) r.of (order.rise n) r.has in
+    (last_is p n key k i h a ∙ counted_some k key (at_least (count_of k key) (last_of key k.pending.entries)) at e) in
     record {
-      of = r.of.entry;
-      sealed = ap (λ m. entry_at at.offset (p.owners.store.logs m)) (lane_is k (at_least (count_of k key) (last_of key k.pending.entries)) at e ∙ lane)
-          ∙ ap (λ o. entry_at o (p.owners.store.logs n)) (sym r.at) ∙ found;
-      authority = r.authority;
-      agrees = r.agrees;
+      q = counted_at key at.offset;
+      of = r;
+      lane = lane_is k (at_least (count_of k key) (last_of key k.pending.entries)) at e ∙ lane;
+      offset = refl;
     }
 
 pub pending_none : (p : Pool) (n key : ℕ) (k : KnownState) → IsWhole p → slot_of key < 64 → MayAsk p n key k → pending_of k key ≡ None → HasNone p n key

@@ -1,6 +1,6 @@
-use Rattle.std.proofs.Common.{ℕ, ◌+◌, ◌≤◌, ◌<◌, ◌≡◌, ◌≢◌, ◌⊎◌, inl, inr, Bool, true, false, ◌&&◌, ◌==◌, nat_le, nat_eq, cond, if◌then◌else◌, List, [], ◌∷◌, ◌++◌, map, Option, Some, None, refl, sym, ◌∙◌, ap, subst, arith}
+use Rattle.std.proofs.Common.{ℕ, ◌+◌, ◌≤◌, ◌≡◌, Bool, true, false, ◌&&◌, ◌==◌, nat_le, nat_eq, cond, if◌then◌else◌, List, [], ◌∷◌, ◌++◌, map, Option, Some, None, refl, sym, ◌∙◌, ap, arith}
 use Rattle.std.proofs.lemmas.Bool.Decides.{nat_tests}
-use Rattle.std.specs.List.{filter, last_or, find}
+use Rattle.std.specs.List.{filter, last_or}
 use Rattle.std.specs.Option.{option_map, option_or}
 use Rattle.dn_pending.specs.declared.entries.Entry.{Entry}
 use Rattle.dn_pending.specs.Entries.{last_of}
@@ -40,6 +40,7 @@ pending_rises a from [] r = tt
 pending_rises a from (p ∷ ps) r = by_test (pending_rises (p.offset + 1) from ps r.1) (nat_le from p.offset) where
   later : List Placed
   later = filter (λ (q : Placed). nat_le from q.offset) ps
+
   by_test : Rises (p.offset + 1) (pending_in later) → (b : Bool) → Rises a (pending_in (cond b (p ∷ later) later))
   by_test rest true = rises_low p.offset a (pending_of p.offset p.entry ++ pending_in later) r.0 (rises_of p.offset p.entry (pending_in later) rest)
   by_test rest false = rises_low (p.offset + 1) a (pending_in later) (omega (arith, r.0)) rest
@@ -63,6 +64,7 @@ last_past key a at (x ∷ es) r e = by_rest (λ y f. last_past key (x.at + 1) y 
   alone : (b : Bool) → option_map (λ (y : Entry). y.at) (cond b (Some x) None) ≡ Some at → a ≤ at
   alone true f = omega (arith, r.0, same_some x.at at f)
   alone false f = absurd (none_some at f)
+
   by_rest : ((y : ℕ) → last_of key es ≡ Some y → x.at + 1 ≤ y) → (o : Option ℕ) → last_of key es ≡ o → option_or o (last_of key (x ∷ [])) ≡ Some at → a ≤ at
   by_rest past None f g = alone (x.key == key) g
   by_rest past (Some y) f g = let le : x.at + 1 ≤ y = past y f in omega (arith, le, r.0, same_some y at g)
@@ -89,8 +91,10 @@ counted_last key from a (x ∷ es) r =
   where
     later : List Pending
     later = filter (counts key from) (map pending_by es)
+
     first : (o : Option Pending) → last_or None later ≡ o → last_or (Some (pending_by x)) later ≡ option_or o (Some (pending_by x))
     first o e = last_over (pending_by x) later ∙ ap (λ y. option_or y (Some (pending_by x))) e
+
     by_rest : (o : Option ℕ) → last_of key es ≡ o → last_or None later ≡ counted_by key (at_least from (last_of key es)) → (t : Bool) → nat_eq x.key key ≡ t → (u : Bool) → nat_le from x.at ≡ u
         → last_or None (cond (t && u) (pending_by x ∷ later) later) ≡ counted_by key (at_least from (option_or o (option_map (λ (y : Entry). y.at) (cond t (Some x) None))))
     by_rest None e rest true t true u =

@@ -1,10 +1,9 @@
-use Rattle.std.proofs.Common.{ℕ, zero, suc, ◌+◌, ◌≤◌, ◌<◌, ◌≡◌, ◌≢◌, ◌⊎◌, inl, inr, Bool, true, false, nat_le, cond, List, [], ◌∷◌, ◌++◌, map, replicate, length, Contains, Option, Some, None, refl, sym, ◌∙◌, ap, subst, arith, slice_index}
+use Rattle.std.proofs.Common.{ℕ, zero, suc, ◌≤◌, ◌<◌, ◌≡◌, inl, inr, Bool, true, false, nat_le, cond, List, [], ◌∷◌, ◌++◌, map, replicate, length, Option, None, refl, sym, ◌∙◌, ap, subst, arith, slice_index}
 use Rattle.std.specs.List.{filter}
 use Rattle.dn_act.specs.Words.{word_at}
 use Rattle.dn_word.specs.declared.packed.deed.Deed.{Deed}
 use Rattle.dn_word.specs.declared.packed.deed.DeedState.TheVariants.{Owned, Nobody}
 use Rattle.dn_model.specs.Regions.{mark_at, IsLane}
-use Rattle.dn_store.specs.State.{StoreState, with_at}
 use Rattle.dn_store.proofs.At.{at_same}
 use Rattle.dn_pending.specs.declared.entries.Entry.{Entry}
 use Rattle.dn_known.specs.State.{KnownState}
@@ -12,7 +11,7 @@ use Rattle.dn_known.specs.Learnt.{kept_past}
 use Rattle.dn_owners.specs.declared.plain.Pending.{Pending}
 use Rattle.dn_owners.specs.Known.{Learnt, Knows, knowing_nothing}
 use Rattle.dn_owners.specs.Sound.{IsSound}
-use Rattle.dn_owners.specs.Events.{Trim, End, Begin, Stop, learns, happens}
+use Rattle.dn_owners.specs.Events.{Trim, End, Begin, Stop, learns}
 use Rattle.dn_owners.proofs.Ats.{none_some}
 use Rattle.dn_owners.proofs.Logs.{ordered}
 use Rattle.dn_owners.proofs.Tables.{kept}
@@ -20,7 +19,7 @@ use Rattle.dn_beside.specs.Pool.{Pool, store_in, IsWhole}
 use Rattle.dn_beside.specs.Grown.{Grows}
 use Rattle.dn_beside.specs.Lanes.{IsMoved, LeavesLane}
 use Rattle.dn_learnt.specs.Learning.{IsMet, Heeds, Learns, pending_by}
-use Rattle.dn_learnt.specs.Heeding.{IsLesson, IsTaught, IsTrimmed, IsStopped}
+use Rattle.dn_learnt.specs.Heeding.{IsTaught, IsTrimmed, IsStopped}
 use Rattle.dn_learnt.proofs.Looks.{lesson}
 
 -- A lane learns by other means than a deed, and what it knows lasts.

@@ -1,4 +1,4 @@
-use Rattle.std.proofs.Common.{ℕ, ◌≤◌, ◌<◌, ◌≡◌, ◌≢◌, ◌⊎◌, inl, inr, Bool, true, false, ◌&&◌, ◌==◌, if◌then◌else◌, List, length, Option, Some, None, refl, sym, ◌∙◌, ap, subst, arith, slice_index, slice_set}
+use Rattle.std.proofs.Common.{ℕ, ◌<◌, ◌≡◌, ◌≢◌, inl, inr, Bool, true, false, ◌&&◌, ◌==◌, if◌then◌else◌, Option, Some, refl, sym, ◌∙◌, ap, subst, arith, slice_index, slice_set}
 use Rattle.std.proofs.lemmas.Bool.Decides.{nat_tests}
 use Rattle.std.proofs.lemmas.Bool.{cases_eq, false≢true}
 use Rattle.dn_word.specs.Deed.{deed_of}
@@ -9,21 +9,21 @@ use Rattle.dn_act.specs.Words.{word_at}
 use Rattle.dn_act.proofs.Words.{word_at-set_same, word_at-set_other, length-set}
 use Rattle.dn_model.specs.Regions.{deed_at, IsLane}
 use Rattle.dn_plan.specs.Plan.{is_owned, is_owner}
-use Rattle.dn_store.specs.State.{StoreState, with_at}
+use Rattle.dn_store.specs.State.{with_at}
 use Rattle.dn_store.proofs.At.{at_same, at_other}
 use Rattle.dn_known.specs.State.{KnownState}
 use Rattle.dn_known.specs.Learnt.{met}
-use Rattle.dn_owners.specs.Known.{Look, Learnt, Knows, Owners}
+use Rattle.dn_owners.specs.Known.{Look, Learnt, Knows}
 use Rattle.dn_owners.specs.Sound.{IsSound}
-use Rattle.dn_owners.specs.Events.{Look_known, Look_new, learns, happens}
+use Rattle.dn_owners.specs.Events.{Look_known, Look_new, learns}
 use Rattle.dn_owners.specs.Given.{IsOwner, HasLearnt}
-use Rattle.dn_owners.proofs.Ats.{same_some, none_some}
+use Rattle.dn_owners.proofs.Ats.{same_some}
 use Rattle.dn_owners.proofs.Logs.{ordered}
 use Rattle.dn_owners.proofs.Tables.{kept}
 use Rattle.dn_beside.specs.Pool.{Pool, store_in, IsWhole}
 use Rattle.dn_beside.specs.Step.{by_lane}
 use Rattle.dn_beside.proofs.Still.{learning_step, quiet_still}
-use Rattle.dn_learnt.specs.Learning.{IsMet, Heeds, Learns, pending_by}
+use Rattle.dn_learnt.specs.Learning.{IsMet, Heeds, Learns}
 use Rattle.dn_learnt.specs.Heeding.{look_by, HasLooked, IsLesson, IsLooked}
 
 -- A lane loads a deed.
@@ -96,16 +96,16 @@ renewed_heeds k v w deeds n slot h g = record {
     | inl e ↦
         let P : ℕ → ℕ → Type 0 = λ a b. IsMet (w.learnt slot) a b (deeds slot) n in
         let first : P (slice_index (slice_set k.epochs slot (deeds slot).epoch) slot) k.log.len =
-            subst (λ a. P a k.log.len) (sym (word_at-set_same k.epochs slot (deeds slot).epoch (omega (arith, h.there, h.heeds.epochs)))) g.here in
+        subst (λ a. P a k.log.len) (sym (word_at-set_same k.epochs slot (deeds slot).epoch (omega (arith, h.there, h.heeds.epochs)))) g.here in
         let both_are : P (slice_index (slice_set k.epochs slot (deeds slot).epoch) slot) (slice_index (slice_set k.counts slot k.log.len) slot) =
-            subst (λ b. P (slice_index (slice_set k.epochs slot (deeds slot).epoch) slot) b) (sym (word_at-set_same k.counts slot k.log.len (omega (arith, h.there, h.heeds.counts)))) first in
+        subst (λ b. P (slice_index (slice_set k.epochs slot (deeds slot).epoch) slot) b) (sym (word_at-set_same k.counts slot k.log.len (omega (arith, h.there, h.heeds.counts)))) first in
         subst (λ u. IsMet (w.learnt u) (slice_index (slice_set k.epochs slot (deeds slot).epoch) u) (slice_index (slice_set k.counts slot k.log.len) u) (deeds u) n) (sym e) both_are
     | inr d ↦
         let old : IsMet (v.learnt t) (slice_index k.epochs t) (slice_index k.counts t) (deeds t) n = h.heeds.met t lt in
         let P : Option Learnt → ℕ → ℕ → Type 0 = λ x a b. IsMet x a b (deeds t) n in
         let one : P (w.learnt t) (slice_index k.epochs t) (slice_index k.counts t) = subst (λ x. P x (slice_index k.epochs t) (slice_index k.counts t)) (sym (g.others t d)) old in
         let two : P (w.learnt t) (slice_index (slice_set k.epochs slot (deeds slot).epoch) t) (slice_index k.counts t) =
-            subst (λ a. P (w.learnt t) a (slice_index k.counts t)) (sym (word_at-set_other k.epochs slot t (deeds slot).epoch d)) one in
+        subst (λ a. P (w.learnt t) a (slice_index k.counts t)) (sym (word_at-set_other k.epochs slot t (deeds slot).epoch d)) one in
         subst (λ b. P (w.learnt t) (slice_index (slice_set k.epochs slot (deeds slot).epoch) t) b) (sym (word_at-set_other k.counts slot t k.log.len d)) two
   ];
   pending = g.pending ∙ h.heeds.pending;
@@ -201,7 +201,7 @@ looked_by p n slot word k h o false e =
     let at : with_at p.owners.knows n v n ≡ v = at_same p.owners.knows n v n refl in
     let told : IsTold (p.owners.knows n) v k (store_in p).deeds n slot = owned k (p.owners.knows n) (store_in p).deeds n l ((store_in p).gates n).len news h.len own.epoch in
     let heeds : Heeds v (store_in p).deeds n (renewed k slot (deed_of word).epoch) =
-        subst (λ x. Heeds v (store_in p).deeds n (renewed k slot x)) (sym (ap (λ (d : Deed). d.epoch) is)) (renewed_heeds k (p.owners.knows n) v (store_in p).deeds n slot news told) in
+    subst (λ x. Heeds v (store_in p).deeds n (renewed k slot x)) (sym (ap (λ (d : Deed). d.epoch) is)) (renewed_heeds k (p.owners.knows n) v (store_in p).deeds n slot news told) in
     (record p { owners = learns p.owners n v }, lesson p n v h.whole sound, record { look = ap (λ (w : Knows). w.look) at }, subst (λ w. Heeds w (store_in p).deeds n (renewed k slot (deed_of word).epoch)) (sym at) heeds)
 
 pub looked : (p : Pool) (n slot word : ℕ) (k : KnownState) → IsLoad p n slot word k → is_owner n word ≡ true → IsLooked p n slot word k
@@ -213,11 +213,12 @@ pub unlooked : (p : Pool) (n slot word : ℕ) (k : KnownState) → IsWhole p →
 unlooked p n slot word k h there heeds found o = by_test (slice_index k.epochs slot == (deed_of word).epoch) refl where
   is : deed_of word ≡ (store_in p).deeds slot
   is = deed_is p slot word h there found
+
   by_test : (b : Bool) → (slice_index k.epochs slot == (deed_of word).epoch) ≡ b → Learns p n (if b then k else renewed k slot (deed_of word).epoch)
   by_test true e = heeds
   by_test false e =
       let differs : slice_index k.epochs slot ≢ (deed_of word).epoch = differ (slice_index k.epochs slot) (deed_of word).epoch e in
       let news : IsNews k (p.owners.knows n) (store_in p).deeds n slot = record { there = there; heeds = heeds; other = λ s. differs (s ∙ sym (ap (λ (d : Deed). d.epoch) is)) } in
       let never : ((store_in p).deeds slot).state ≡ Owned → ((store_in p).deeds slot).lane ≡ n → ⊥ = λ s l.
-          false≢true (sym o ∙ says_owner n word (ap (λ (d : Deed). d.state) is ∙ s) (ap (λ (d : Deed). d.lane) is ∙ l)) in
+      false≢true (sym o ∙ says_owner n word (ap (λ (d : Deed). d.state) is ∙ s) (ap (λ (d : Deed). d.lane) is ∙ l)) in
       subst (λ x. Learns p n (renewed k slot x)) (sym (ap (λ (d : Deed). d.epoch) is)) (renewed_heeds k (p.owners.knows n) (p.owners.knows n) (store_in p).deeds n slot news (unowned k (p.owners.knows n) (store_in p).deeds n slot news never))

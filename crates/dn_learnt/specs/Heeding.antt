@@ -1,11 +1,9 @@
-use Rattle.std.specs.Prelude.{◌≡◌, ◌<◌, ℕ, false, Option, Some, None}
+use Rattle.std.specs.Prelude.{◌≡◌, ℕ, false, Some, None}
 use Rattle.dn_word.specs.Deed.{deed_of}
-use Rattle.dn_act.specs.Words.{word_at}
-use Rattle.dn_model.specs.Regions.{slot_of}
 use Rattle.dn_known.specs.State.{KnownState}
 use Rattle.dn_known.specs.Learnt.{met}
 use Rattle.dn_owners.specs.Known.{Look, knowing_nothing}
-use Rattle.dn_beside.specs.Pool.{Pool, store_in}
+use Rattle.dn_beside.specs.Pool.{Pool}
 use Rattle.dn_beside.specs.Step.{IsStepBy, IsQuiet, by_lane}
 use Rattle.dn_learnt.specs.Learning.{Learns}
 

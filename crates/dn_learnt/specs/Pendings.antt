@@ -1,13 +1,11 @@
-use Rattle.std.specs.Prelude.{◌≡◌, ◌<◌, ℕ, true, false, Option, Some, None}
+use Rattle.std.specs.Prelude.{◌≡◌, ℕ, false, Some, None}
 use Rattle.dn_word.specs.declared.packed.place.Ref.{Ref}
-use Rattle.dn_record.specs.declared.records.Record.{Record}
 use Rattle.dn_model.specs.Regions.{slot_of}
-use Rattle.dn_model.specs.Held.{is_authority, record_at}
-use Rattle.dn_store.specs.Holding.{waiting, owner_in, authority_in}
+use Rattle.dn_store.specs.Holding.{waiting, owner_in}
 use Rattle.dn_known.specs.State.{KnownState}
-use Rattle.dn_known.specs.Counting.{pending_of}
 use Rattle.dn_owners.specs.Known.{Look}
-use Rattle.dn_owners.specs.Sound.{Agrees}
+use Rattle.dn_owners.specs.declared.plain.Pending.{Pending}
+use Rattle.dn_owners.specs.Merging.{IsRecordOf}
 use Rattle.dn_beside.specs.Pool.{Pool, store_in}
 use Rattle.dn_learnt.specs.Learning.{Learns}
 
@@ -22,11 +20,11 @@ pub record MayAsk (p : Pool) (n key : ℕ) (k : KnownState) : Type 0 where
 
 -- The key's last pending record that counts is a record of the lane's log, and the key's authority, or a Delete of a key
 -- without one.
-pub record IsPendingAt (p : Pool) (key : ℕ) (at : Ref) : Type 0 where
-  pub of : Record
-  pub sealed : record_at (store_in p).logs (Some at) ≡ Some of
-  pub authority : is_authority key of ≡ true
-  pub agrees : Agrees (authority_in (store_in p) key) key of
+pub record IsPendingAt (p : Pool) (n key : ℕ) (at : Ref) : Type 0 where
+  pub q : Pending
+  pub of : IsRecordOf p.owners n key q
+  pub lane : at.lane ≡ n
+  pub offset : at.offset ≡ q.offset
 
 -- No log has a record of the key that isn't merged.
 pub record HasNone (p : Pool) (n key : ℕ) : Type 0 where

@@ -35,7 +35,7 @@ pub fn looking()
 /// of the key that isn't merged. So what it learnt of the slot in an earlier epoch counts no more.
 pub fn asking()
     ensures some { (p : Pool) (n key : ℕ) (k : KnownState) (at : Ref) → IsWhole p → slot_of key < 64
-        → k.log.lane ≡ n → MayAsk p n key k → pending_of k key ≡ Some at → IsPendingAt p key at }
+        → k.log.lane ≡ n → MayAsk p n key k → pending_of k key ≡ Some at → IsPendingAt p n key at }
     ensures none { (p : Pool) (n key : ℕ) (k : KnownState) → IsWhole p → slot_of key < 64
         → MayAsk p n key k → pending_of k key ≡ None → HasNone p n key }
 {}
