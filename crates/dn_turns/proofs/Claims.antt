@@ -1,5 +1,4 @@
-use Rattle.std.proofs.Common.{ℕ, zero, suc, ◌+◌, ◌-◌, ◌==◌, ◌<◌, ◌≤◌, ◌≡◌, ◌≢◌, ◌⊎◌, inl, inr, Bool, true, false, nat_lt, if◌then◌else◌, List, Option, Some, None, refl, sym, ◌∙◌, ap, subst, arith}
-use Rattle.std.proofs.lemmas.Bool.{cases_eq}
+use Rattle.std.proofs.Common.{ℕ, ◌+◌, ◌-◌, ◌==◌, ◌<◌, ◌≤◌, ◌≡◌, ◌⊎◌, inl, inr, Bool, true, false, nat_lt, if◌then◌else◌, Option, Some, None, refl, ap, arith}
 use Rattle.std.proofs.lemmas.Bool.Decides.{nat_tests}
 use Rattle.dn_word.specs.Gate.{gate_of}
 use Rattle.dn_word.specs.declared.packed.place.Ref.{Ref}
@@ -18,7 +17,7 @@ use Rattle.dn_index.specs.declared.places.Step.{Step}
 use Rattle.dn_index.specs.declared.places.Step.TheVariants.{On, End}
 use Rattle.dn_index.specs.Walk.{Walking, spot, trail, next_at, noted, past, filling, at_end, names_bucket, onward, step_at, turn_of, after_of}
 use Rattle.dn_store.specs.State.{with_at}
-use Rattle.dn_store.proofs.At.{at_same, at_other, at_by}
+use Rattle.dn_store.proofs.At.{at_same, at_other}
 use Rattle.dn_beside.specs.Pool.{Pool}
 use Rattle.dn_walks.specs.Changing.{KnowsStep, asks_at}
 use Rattle.dn_merge.specs.Merge.{Merging, change_of, ended, on, by_change, headed, walked, step_in}
@@ -26,27 +25,11 @@ use Rattle.dn_merge.specs.declared.places.Change.{Change}
 use Rattle.dn_merge.specs.declared.places.MergePlace.{MergePlace}
 use Rattle.dn_merge.specs.declared.places.MergePlace.TheVariants as at
 use Rattle.dn_merge.specs.declared.mergers.MergeTurn.TheVariants.{Idle}
-use Rattle.dn_turns.specs.Claims.{asks_in, asks, sum_to, asking}
+use Rattle.dn_turns.specs.Claims.{asks_in, asks, asking}
 use Rattle.dn_turns.proofs.Loads.{Loads}
+use Rattle.dn_turns.proofs.Sums.{sum_most, sum_changes}
 
 -- How many mergers are at their add.
-
--- ---- sums
-pub sum_most : (n : ℕ) (f : ℕ → ℕ) → ((i : ℕ) → f i ≤ 1) → sum_to n f ≤ n
-sum_most zero f le = omega arith
-sum_most (suc n) f le = omega (arith, le (suc n), sum_most n f le)
-
-sum_same : (n : ℕ) (f g : ℕ → ℕ) → ((i : ℕ) → i ≤ n → g i ≡ f i) → sum_to n g ≡ sum_to n f
-sum_same zero f g e = refl
-sum_same (suc n) f g e = omega (arith, e (suc n) (omega arith), sum_same n f g (λ i le. e i (omega (arith, le))))
-
--- one of them changes
-pub sum_changes : (n : ℕ) (f g : ℕ → ℕ) (at : ℕ) → 0 < at → at ≤ n → ((i : ℕ) → i ≢ at → g i ≡ f i) → sum_to n g + f at ≡ sum_to n f + g at
-sum_changes zero f g at pos le e = absurd (omega (arith, pos, le))
-sum_changes (suc n) f g at pos le e = elim (cases_eq (suc n) at) [
-  | inl s ↦ omega (arith, ap f s, ap g s, sum_same n f g (λ i lt. e i (λ t. absurd (omega (arith, t, s, lt)))))
-  | inr d ↦ omega (arith, e (suc n) d, sum_changes n f g at pos (omega (arith, d, le)) e)
-]
 
 walk_asks : (p : WalkPlace) → asks_at p ≤ 1
 walk_asks (Key errand t number) = omega arith

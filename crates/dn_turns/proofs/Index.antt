@@ -1,11 +1,10 @@
-use Rattle.std.proofs.Common.{ℕ, ◌+◌, ◌*◌, ◌<◌, ◌≤◌, ◌≡◌, ◌≢◌, ◌⊎◌, inl, inr, false, List, [], ◌++◌, Contains, Option, Some, None, refl, sym, ◌∙◌, ap, subst, arith, append-nil}
-use Rattle.dn_act.specs.Words.{word_at}
+use Rattle.std.proofs.Common.{ℕ, ◌+◌, ◌*◌, ◌≡◌, ◌≢◌, ◌⊎◌, inl, inr, false, [], Option, Some, None, refl, sym, ◌∙◌, ap, subst, arith, append-nil}
 use Rattle.dn_record.specs.declared.records.Record.{Record}
 use Rattle.dn_model.specs.declared.logs.Placed.{Placed}
-use Rattle.dn_model.specs.Regions.{gate_at, directory, directory_at, home_of, slot_of, IsLane}
-use Rattle.dn_model.specs.Held.{Found, Says, unmerged, held_from}
+use Rattle.dn_model.specs.Regions.{gate_at, directory_at, slot_of, IsLane}
+use Rattle.dn_model.specs.Held.{Found, held_from}
 use Rattle.dn_store.specs.State.{StoreState, with_at}
-use Rattle.dn_store.specs.Holding.{waiting, authority_in, holds}
+use Rattle.dn_store.specs.Holding.{waiting, authority_in}
 use Rattle.dn_owners.specs.Known.{Look, Owners}
 use Rattle.dn_owners.specs.Sound.{IsSound, Agrees}
 use Rattle.dn_owners.specs.Events.{Set, happens}

@@ -1,8 +1,7 @@
-use Rattle.std.proofs.Common.{ℕ, ◌+◌, ◌<◌, ◌≤◌, ◌≡◌, ◌≢◌, inl, inr, true, List, ◌∷◌, ◌++◌, append_assoc, Option, Some, None, refl, sym, ◌∙◌, ap, subst, arith}
-use Rattle.dn_model.specs.declared.logs.Placed.{Placed}
+use Rattle.std.proofs.Common.{ℕ, ◌≡◌, inl, inr, true, ◌∷◌, ◌++◌, append_assoc, sym, ◌∙◌, ap, arith}
 use Rattle.dn_model.specs.Regions.{place, offsets, IsLane}
 use Rattle.dn_model.specs.Held.{is_authority}
-use Rattle.dn_beside.specs.Pool.{Pool, store_in, IsWhole}
+use Rattle.dn_beside.specs.Pool.{Pool, IsWhole}
 use Rattle.dn_beside.specs.Grown.{Grows}
 use Rattle.dn_beside.specs.Chains.{IsChainKept}
 use Rattle.dn_beside.specs.Mergers.{LeavesMerger}
@@ -10,7 +9,7 @@ use Rattle.dn_walks.proofs.Keeps.{walk_lasts}
 use Rattle.dn_merge.specs.Merge.{Merging}
 use Rattle.dn_merge.specs.declared.places.MergePlace.{MergePlace}
 use Rattle.dn_merge.specs.declared.places.MergePlace.TheVariants as at
-use Rattle.dn_turns.specs.Knows.{Works, want_of, AtHeader, KnowsMerge, IsMergerAt}
+use Rattle.dn_turns.specs.Knows.{Works, want_of, KnowsMerge, IsMergerAt}
 use Rattle.dn_turns.proofs.Logs.{spelled, place_lasts}
 use Rattle.dn_turns.proofs.Loads.{key_positive}
 use Rattle.dn_turns.proofs.Walks.{works_wait}

@@ -4,6 +4,7 @@ pub mod Walks
 pub mod Index
 pub mod Passes
 pub mod Lasts
+pub mod Sums
 pub mod Claims
 pub mod Steps
 pub mod Room

@@ -1,14 +1,12 @@
-use Rattle.std.proofs.Common.{ℕ, ◌+◌, ◌*◌, ◌/◌, ◌%◌, ◌==◌, ◌<◌, ◌≤◌, ◌≡◌, ◌≢◌, ◌⊎◌, inl, inr, Bool, true, false, nat_eq, if◌then◌else◌, List, Option, Some, None, refl, sym, ◌∙◌, ap, subst, arith}
+use Rattle.std.proofs.Common.{ℕ, ◌+◌, ◌*◌, ◌/◌, ◌%◌, ◌==◌, ◌<◌, ◌≤◌, ◌≡◌, ◌≢◌, Bool, true, false, nat_eq, if◌then◌else◌, List, Option, Some, None, refl, sym, ◌∙◌, ap, subst, arith}
 use Rattle.std.proofs.lemmas.Bool.{false≢true}
 use Rattle.std.proofs.lemmas.Bool.Decides.{nat_tests}
 use Rattle.std.proofs.lemmas.List.{set-get_or}
 use Rattle.dn_word.specs.Gate.{gate_of}
-use Rattle.dn_word.specs.Ref.{ref_word}
 use Rattle.dn_word.specs.declared.packed.gate.Gate.{Gate}
 use Rattle.dn_word.specs.declared.packed.place.Ref.{Ref}
 use Rattle.dn_act.specs.Action.{at_of, words_after}
 use Rattle.dn_act.specs.Words.{word_at}
-use Rattle.dn_record.specs.Head.{head_words}
 use Rattle.dn_record.specs.Reading.{head_in}
 use Rattle.dn_record.specs.declared.heads.Head.{Head}
 use Rattle.dn_record.specs.Record.{length_in_words, head_of}
@@ -16,7 +14,6 @@ use Rattle.dn_record.specs.declared.records.Record.{Record}
 use Rattle.dn_record.specs.declared.records.Record.TheVariants.{Put, Delete, Share, Unshare, Loose, LooseDelete, Pad}
 use Rattle.dn_record.proofs.HeadLemmas.{head_spelled}
 use Rattle.dn_record.proofs.SpelledLemmas.{is_head}
-use Rattle.dn_model.specs.declared.logs.Placed.{Placed}
 use Rattle.dn_model.specs.Regions.{gate_at, mark_at, directory, directory_at, place, offsets, home_of, IsLane}
 use Rattle.dn_model.specs.Log.{SpellsAt}
 use Rattle.dn_model.specs.Held.{is_authority}
@@ -31,7 +28,7 @@ use Rattle.dn_merge.specs.declared.places.Change.TheVariants.{Set, Remove}
 use Rattle.dn_merge.specs.declared.places.MergePlace.{MergePlace}
 use Rattle.dn_merge.specs.declared.places.MergePlace.TheVariants as at
 use Rattle.dn_merge.specs.declared.mergers.MergeTurn.TheVariants.{Idle}
-use Rattle.dn_turns.specs.Knows.{Works, want_of, Suits, AtHeader, AtKey, AtWalk, AtPass, KnowsMerge}
+use Rattle.dn_turns.specs.Knows.{want_of, Suits, AtHeader, AtKey, AtWalk, AtPass, KnowsMerge}
 use Rattle.dn_turns.proofs.Logs.{record_here, spelled}
 
 -- The loads of a turn before its walk.

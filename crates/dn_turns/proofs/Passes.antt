@@ -1,14 +1,10 @@
-use Rattle.std.proofs.Common.{ℕ, ◌+◌, ◌*◌, ◌<◌, ◌≤◌, ◌≡◌, ◌≢◌, inl, inr, false, List, Option, Some, refl, sym, ◌∙◌, ap, subst, arith, slice_set}
+use Rattle.std.proofs.Common.{ℕ, ◌≢◌, inl, refl, ◌∙◌, arith, slice_set}
 use Rattle.dn_act.proofs.Words.{word_at-set_other}
-use Rattle.dn_record.specs.Record.{length_in_words}
 use Rattle.dn_model.specs.declared.logs.Placed.{Placed}
-use Rattle.dn_model.specs.Regions.{gate_at, mark_at, directory_at, home_of, IsLane}
+use Rattle.dn_model.specs.Regions.{mark_at, IsLane}
 use Rattle.dn_model.proofs.HashLaws.{home_below}
 use Rattle.dn_store.specs.Cut.{IsCut}
-use Rattle.dn_store.specs.Changes.{marked}
-use Rattle.dn_store.specs.Represents.{Represents}
 use Rattle.dn_store.proofs.At.{at_other}
-use Rattle.dn_store.proofs.Frames.{cut_past}
 use Rattle.dn_store.proofs.Lanes.{mark_stored}
 use Rattle.dn_owners.specs.Sound.{IsOrdered}
 use Rattle.dn_owners.specs.Events.{Pass, happens}

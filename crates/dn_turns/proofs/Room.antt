@@ -1,4 +1,4 @@
-use Rattle.std.proofs.Common.{ℕ, ◌+◌, ◌<◌, ◌≤◌, ◌≡◌, ◌⊎◌, inl, inr, List, Option, Some, ap, arith}
+use Rattle.std.proofs.Common.{ℕ, ◌+◌, ◌≤◌, ◌≡◌, inl, inr, List, Option, Some, ap, arith}
 use Rattle.dn_model.specs.Regions.{IsLane}
 use Rattle.dn_store.specs.State.{with_at}
 use Rattle.dn_beside.specs.Pool.{Pool, store_in}

@@ -1,8 +1,7 @@
-use Rattle.std.proofs.Common.{ℕ, ◌+◌, ◌^◌, ◌<◌, ◌≤◌, ◌≡◌, ◌≢◌, ◌⊎◌, inl, inr, List, Option, Some, refl, sym, ◌∙◌, ap, subst, arith, slice_set}
+use Rattle.std.proofs.Common.{ℕ, ◌+◌, ◌^◌, ◌<◌, ◌≡◌, inl, inr, List, Option, refl, sym, ◌∙◌, ap, subst, arith}
 use Rattle.dn_act.specs.Action.{Performs, MayPerform, at_of}
 use Rattle.dn_act.specs.Words.{word_at}
-use Rattle.dn_record.specs.Record.{length_in_words}
-use Rattle.dn_model.specs.Regions.{mark_at, IsLane}
+use Rattle.dn_model.specs.Regions.{IsLane}
 use Rattle.dn_index.specs.Walk.{Walking, walk_step}
 use Rattle.dn_store.specs.Cut.{IsCut}
 use Rattle.dn_store.proofs.Frames.{cut_past}
@@ -10,9 +9,9 @@ use Rattle.dn_beside.specs.Pool.{Pool, store_in, IsWhole}
 use Rattle.dn_beside.specs.Step.{by_merger}
 use Rattle.dn_beside.proofs.Still.{learning_step, quiet_still}
 use Rattle.dn_walks.specs.IndexStep.{IndexState, with_index}
-use Rattle.dn_walks.specs.Changing.{asks_at, IsWalked}
+use Rattle.dn_walks.specs.Changing.{IsWalked}
 use Rattle.dn_walks.proofs.Changing.{walk_steps}
-use Rattle.dn_merge.specs.Merge.{Merging, merge_next, merge_after, next_in, step_in}
+use Rattle.dn_merge.specs.Merge.{Merging, merge_next, next_in, step_in}
 use Rattle.dn_merge.specs.declared.places.MergePlace.{MergePlace}
 use Rattle.dn_merge.specs.declared.places.MergePlace.TheVariants as at
 use Rattle.dn_turns.specs.Knows.{want_of, AtWalk, AtPass, KnowsMerge, IsMergerAt}
@@ -59,7 +58,7 @@ load_step n p place word now t o k e = record {
 walk_turn : (n : ℕ) (p : Pool) (to : ℕ) (w : Walking) (word : ℕ) (now : List ℕ) → IsTurn n p → AtWalk n p to w → Performs (next_in n (at.Walk to w)) word p.words now → MergerStepped n (at_place n (at.Walk to w)) p word now
 walk_turn n p to w word now t a e =
     let want : Option ℕ = want_of a.change (record { lane = n; offset = a.mark }) in
-    let d : IsWalked n want p w.place w.key (walk_step w word) now = walk_steps n w.key want p w.place word now (record { was = t.whole.represents; lane = t.lane.positive; key = a.positive; few = t.few }) a.walk e in
+    let d : IsWalked n want p w word now = walk_steps n want p w word now (record { was = t.whole.represents; lane = t.lane.positive; key = a.positive; few = t.few }) a.walk e in
     let i : IndexState = d.index in
     let g : IsIndexWork n w.key want p i = record { whole = t.whole; lane = t.lane; of = a.works.of; setting = walk_setting n p to w t.whole t.lane a; step = d.is } in
     let asks : asks_in (step_in n word (at.Walk to w)).place ≡ step_asks (walk_step w word) = walked_asks n w.key want (with_index p i) to w (walk_step w word) d.knows in

@@ -1,11 +1,9 @@
-use Rattle.std.proofs.Common.{ℕ, ◌+◌, ◌≡◌, ◌⊎◌, inl, inr, true, nat_eq, Bool, List, Option, Some, None, refl, sym, ◌∙◌, ap, subst, arith}
+use Rattle.std.proofs.Common.{ℕ, ◌≡◌, ◌⊎◌, inl, inr, true, Option, Some, None, sym, ◌∙◌, ap, arith}
 use Rattle.std.proofs.lemmas.Bool.{false≢true}
 use Rattle.std.proofs.lemmas.Bool.Decides.{nat_tests}
 use Rattle.dn_word.specs.Ref.{ref_of, ref_word}
-use Rattle.dn_word.specs.declared.packed.place.Ref.{Ref}
 use Rattle.dn_record.specs.declared.records.Record.{Record}
 use Rattle.dn_record.specs.declared.records.Record.TheVariants.{Put, Delete, Share, Unshare, Loose, LooseDelete, Pad}
-use Rattle.dn_model.specs.declared.logs.Placed.{Placed}
 use Rattle.dn_model.specs.Regions.{IsLane}
 use Rattle.dn_model.specs.Held.{is_authority, record_at}
 use Rattle.dn_index.specs.Walk.{Walking, turn_of, after_of}
@@ -20,7 +18,7 @@ use Rattle.dn_walks.specs.Changing.{KnowsStep}
 use Rattle.dn_merge.specs.Merge.{walked}
 use Rattle.dn_merge.specs.declared.places.Change.{Change}
 use Rattle.dn_merge.specs.declared.places.Change.TheVariants.{Set, Remove}
-use Rattle.dn_turns.specs.Knows.{Works, want_of, Suits, Follows, AtWalk, AtPass, KnowsMerge}
+use Rattle.dn_turns.specs.Knows.{Works, want_of, Suits, AtWalk, AtPass, KnowsMerge}
 use Rattle.dn_turns.proofs.Logs.{spelled, works_has, leads_there}
 
 -- What a walk means to the owners, and what is known when it ends.

@@ -1,8 +1,9 @@
-use Rattle.std.specs.Prelude.{ℕ, ◌+◌, zero, suc, Option, Some, None}
+use Rattle.std.specs.Prelude.{ℕ, Option, Some, None}
 use Rattle.dn_merge.specs.Merge.{Merging}
 use Rattle.dn_merge.specs.declared.places.MergePlace.{MergePlace}
 use Rattle.dn_merge.specs.declared.places.MergePlace.TheVariants.{Gate, Mark, Directory, Header, Key, Walk, Pass}
 use Rattle.dn_walks.specs.Changing.{asks_at}
+use Rattle.dn_turns.specs.Sums.{sum_to}
 
 -- How many mergers have read the overflow counter below its limit and not yet added to it.
 
@@ -18,11 +19,6 @@ asks_in (Pass to) = 0
 abbrev pub asks : Option Merging → ℕ
 asks None = 0
 asks (Some m) = asks_in m.place
-
--- what a function gives for the numbers from 1 to this one, in all
-abbrev pub sum_to : ℕ → (ℕ → ℕ) → ℕ
-sum_to zero f = 0
-sum_to (suc n) f = f (suc n) + sum_to n f
 
 -- of all lanes' mergers
 abbrev pub asking : (ℕ → Option Merging) → ℕ

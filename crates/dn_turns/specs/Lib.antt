@@ -1,3 +1,4 @@
 pub mod Knows
+pub mod Sums
 pub mod Claims
 pub mod Steps

@@ -18,7 +18,7 @@ use Rattle.dn_index.specs.declared.places.WalkPlace.TheVariants.{Key, Next, Matc
 use Rattle.dn_index.specs.declared.places.WalkTurn.TheVariants.{IndexFull}
 use Rattle.dn_index.specs.declared.places.Step.{Step}
 use Rattle.dn_index.specs.declared.places.Step.TheVariants.{On, End}
-use Rattle.dn_index.specs.Walk.{spot, trail, key_at, place_at, next_at, noted, past, names_bucket, onward, filling, at_end, step_at}
+use Rattle.dn_index.specs.Walk.{Walking, walk_next, spot, trail, key_at, place_at, next_at, noted, past, names_bucket, onward, filling, at_end, step_at}
 use Rattle.dn_store.specs.State.{with_at}
 use Rattle.dn_store.specs.Overflow.{with_bucket}
 use Rattle.dn_store.specs.Represents.{Represents}
@@ -29,6 +29,7 @@ use Rattle.dn_store.proofs.Claims.{bucket_claim, bucket_miss}
 use Rattle.dn_store.proofs.Links.{link}
 use Rattle.dn_beside.specs.Pool.{Pool, store_in}
 use Rattle.dn_walks.specs.Trails.{Tracks, MayBeFree}
+use Rattle.dn_walks.specs.IndexStep.{IndexState, with_index, IsIndexStep}
 use Rattle.dn_walks.specs.Changing.{Wants, KnowsWalk, KnowsStep, asks_at, IsWalked}
 use Rattle.dn_walks.proofs.Trails.{tracks_in, spot_of, tracks_past, free_past, tracks_none, next_none, tracks_on}
 use Rattle.dn_walks.proofs.Seen.{index_of, seen_load, counted_index, seen_count, stored_index, seen_store}
@@ -42,9 +43,17 @@ pub record IsAt (n k : ℕ) (p : Pool) : Type 0 where
   pub key : 0 < k
   pub few : (store_in p).bucket_count + 1 < 2 ^ 64
 
+-- what comes of an action, by the step to which it leads
+record Comes (n : ℕ) (want : Option ℕ) (p : Pool) (place : WalkPlace) (k : ℕ) (step : Step) (now : List ℕ) : Type 0 where
+  index : IndexState
+  words : index.words ≡ now
+  is : IsIndexStep n k want p index
+  knows : KnowsStep n k want (with_index p index) step
+  count : index.bucket_count ≡ (store_in p).bucket_count + asks_at place
+
 -- ---- the places that load
 loaded : (n k : ℕ) (want : Option ℕ) (p : Pool) (now : List ℕ) (at : ℕ) (place : WalkPlace) (step : Step) → asks_at place ≡ 0 → now ≡ words_after (Load at) p.words → Represents p.words p.chains (store_in p)
-    → KnowsStep n k want p step → IsWalked n want p place k step now
+    → KnowsStep n k want p step → Comes n want p place k step now
 loaded n k want p now at place step asks e h a = record {
   index = index_of p;
   words = sym (e ∙ set-get_or p.words at 0);
@@ -54,7 +63,7 @@ loaded n k want p now at place step asks e h a = record {
 }
 
 key_step : (n k : ℕ) (want : Option ℕ) (p : Pool) (errand : Errand) (t : Trail) (number word : ℕ) (now : List ℕ) → Represents p.words p.chains (store_in p) → KnowsWalk n k want p (Key errand t number)
-    → Performs (Load (bucket_at t.bucket number)) word p.words now → IsWalked n want p (Key errand t number) k (step_at k (Key errand t number) word) now
+    → Performs (Load (bucket_at t.bucket number)) word p.words now → Comes n want p (Key errand t number) k (step_at k (Key errand t number) word) now
 key_step n k want p errand t number word now h a e = loaded n k want p now (bucket_at t.bucket number) (Key errand t number) (step_at k (Key errand t number) word) refl e.change h (by_key (word == k) refl) where
   by_number : (b : Bool) → (number == 3) ≡ b → bucket p.words t.bucket number ≢ k → KnowsStep n k want p (if b then On (Next errand (noted t number word)) else On (Key errand (noted t number word) (number + 1)))
   by_number true f d = (
@@ -74,7 +83,7 @@ key_step n k want p errand t number word now h a e = loaded n k want p now (buck
   by_key false f = by_number (number == 3) refl (λ g. let z : word ≢ k = grind (arith, nat_tests) in z (e.answer ∙ g))
 
 next_step : (n k : ℕ) (want : Option ℕ) (p : Pool) (errand : Errand) (t : Trail) (word : ℕ) (now : List ℕ) → IsAt n k p → KnowsWalk n k want p (Next errand t)
-    → Performs (Load (bucket_at t.bucket 7)) word p.words now → IsWalked n want p (Next errand t) k (step_at k (Next errand t) word) now
+    → Performs (Load (bucket_at t.bucket 7)) word p.words now → Comes n want p (Next errand t) k (step_at k (Next errand t) word) now
 next_step n k want p errand t word now g a e = loaded n k want p now (bucket_at t.bucket 7) (Next errand t) (step_at k (Next errand t) word) refl e.change g.was (by_word (names_bucket word) refl) where
   none : bucket p.words t.bucket 7 ≡ 0 → (store_in p).index k ≡ None
   none z = tracks_none p.words p.chains (store_in p) k t g.was g.key a.1 z
@@ -97,7 +106,7 @@ next_step n k want p errand t word now g a e = loaded n k want p now (bucket_at 
   by_word false f = ended (sym e.answer ∙ next_none p.words p.chains (store_in p) k t word g.was a.1 (sym e.answer) f) errand a.0
 
 counter_step : (n k : ℕ) (want : Option ℕ) (p : Pool) (at : Ref) (last word : ℕ) (now : List ℕ) → Represents p.words p.chains (store_in p) → KnowsWalk n k want p (Counter at last) → Performs (Load 3) word p.words now
-    → IsWalked n want p (Counter at last) k (step_at k (Counter at last) word) now
+    → Comes n want p (Counter at last) k (step_at k (Counter at last) word) now
 counter_step n k want p at last word now h a e = loaded n k want p now 3 (Counter at last) (step_at k (Counter at last) word) refl e.change h (by_word (nat_lt word 4096)) where
   by_word : (b : Bool) → KnowsStep n k want p (if b then On (Claim at last) else End (IndexFull word))
   by_word true = a
@@ -105,7 +114,7 @@ counter_step n k want p at last word now h a e = loaded n k want p now 3 (Counte
 
 -- ---- the add that claims a bucket
 claim_step : (n k : ℕ) (want : Option ℕ) (p : Pool) (at : Ref) (last word : ℕ) (now : List ℕ) → IsAt n k p → KnowsWalk n k want p (Claim at last) → Performs (Add 3 1) word p.words now
-    → IsWalked n want p (Claim at last) k (step_at k (Claim at last) word) now
+    → Comes n want p (Claim at last) k (step_at k (Claim at last) word) now
 claim_step n k want p at last word now g a e = by_word (nat_lt word 4096) refl where
   total : ℕ
   total = (store_in p).bucket_count
@@ -116,7 +125,7 @@ claim_step n k want p at last word now g a e = by_word (nat_lt word 4096) refl w
   is : slice_set p.words 3 (total + 1) ≡ now
   is = sym (e.change ∙ ap (λ z. slice_set p.words 3 z) (let z : (word_at p.words 3 + 1) % 2 ^ 64 ≡ total + 1 = omega (arith, g.few, g.was.table.bucket_count) in z))
 
-  by_word : (b : Bool) → nat_lt word 4096 ≡ b → IsWalked n want p (Claim at last) k (if b then On (FillPlace at (spot (4096 + word) 1) (Some last)) else End (IndexFull word)) now
+  by_word : (b : Bool) → nat_lt word 4096 ≡ b → Comes n want p (Claim at last) k (if b then On (FillPlace at (spot (4096 + word) 1) (Some last)) else End (IndexFull word)) now
   by_word true f =
       let lt : word < 4096 = grind (arith, nat_tests) in
       let takers : ℕ → ℕ = with_at (store_in p).takers (4096 + total) n in
@@ -152,7 +161,7 @@ claim_step n k want p at last word now g a e = by_word (nat_lt word 4096) refl w
 
 -- ---- where the key was met
 match_step : (n k : ℕ) (want : Option ℕ) (p : Pool) (errand : Errand) (s : Spot) (word : ℕ) (now : List ℕ) → IsAt n k p → KnowsWalk n k want p (Match errand s) → Performs (next_at k (Match errand s)) word p.words now
-    → IsWalked n want p (Match errand s) k (step_at k (Match errand s) word) now
+    → Comes n want p (Match errand s) k (step_at k (Match errand s) word) now
 match_step n k want p Find s word now g a e = absurd a.0
 match_step n k want p (Set at) s word now g a e =
     let c = a.1.spot in
@@ -207,7 +216,7 @@ match_step n k want p Remove s word now g a e =
 
 -- ---- the place word of a free place
 fill_place_step : (n k : ℕ) (want : Option ℕ) (p : Pool) (at : Ref) (s : Spot) (from : Option ℕ) (word : ℕ) (now : List ℕ) → IsAt n k p → KnowsWalk n k want p (FillPlace at s from) → Performs (Store (place_at s) (ref_word at)) word p.words now
-    → IsWalked n want p (FillPlace at s from) k (step_at k (FillPlace at s from) word) now
+    → Comes n want p (FillPlace at s from) k (step_at k (FillPlace at s from) word) now
 fill_place_step n k want p at s None word now g a e =
     let c = a.1.0.spot in
     let b : ℕ = s.bucket in
@@ -274,7 +283,7 @@ fill_place_step n k want p at s (Some last) word now g a e =
 
 -- ---- and its key word
 fill_key_step : (n k : ℕ) (want : Option ℕ) (p : Pool) (s : Spot) (from : Option ℕ) (word : ℕ) (now : List ℕ) → IsAt n k p → KnowsWalk n k want p (FillKey s from) → Performs (Store (key_at s) k) word p.words now
-    → IsWalked n want p (FillKey s from) k (step_at k (FillKey s from) word) now
+    → Comes n want p (FillKey s from) k (step_at k (FillKey s from) word) now
 fill_key_step n k want p s None word now g a e =
     let c = a.1.0.spot in
     let b : ℕ = s.bucket in
@@ -342,7 +351,7 @@ fill_key_step n k want p s (Some last) word now g a e =
 
 -- ---- the next word of the last bucket
 link_step : (n k : ℕ) (want : Option ℕ) (p : Pool) (last new word : ℕ) (now : List ℕ) → IsAt n k p → KnowsWalk n k want p (Link last new) → Performs (Store (bucket_at last 7) new) word p.words now
-    → IsWalked n want p (Link last new) k (step_at k (Link last new) word) now
+    → Comes n want p (Link last new) k (step_at k (Link last new) word) now
 link_step n k want p last new word now g a e =
     let l = a.2 in
     let home : ℕ = home_of k in
@@ -373,12 +382,17 @@ link_step n k want p last new word now g a e =
     }
 
 -- ---- any place
-pub walk_steps : (n k : ℕ) (want : Option ℕ) (p : Pool) (place : WalkPlace) (word : ℕ) (now : List ℕ) → IsAt n k p → KnowsWalk n k want p place → Performs (next_at k place) word p.words now → IsWalked n want p place k (step_at k place word) now
-walk_steps n k want p (Key errand t number) word now g a e = key_step n k want p errand t number word now g.was a e
-walk_steps n k want p (Next errand t) word now g a e = next_step n k want p errand t word now g a e
-walk_steps n k want p (Match errand s) word now g a e = match_step n k want p errand s word now g a e
-walk_steps n k want p (Counter at last) word now g a e = counter_step n k want p at last word now g.was a e
-walk_steps n k want p (Claim at last) word now g a e = claim_step n k want p at last word now g a e
-walk_steps n k want p (FillPlace at s from) word now g a e = fill_place_step n k want p at s from word now g a e
-walk_steps n k want p (FillKey s from) word now g a e = fill_key_step n k want p s from word now g a e
-walk_steps n k want p (Link last new) word now g a e = link_step n k want p last new word now g a e
+place_steps : (n k : ℕ) (want : Option ℕ) (p : Pool) (place : WalkPlace) (word : ℕ) (now : List ℕ) → IsAt n k p → KnowsWalk n k want p place → Performs (next_at k place) word p.words now → Comes n want p place k (step_at k place word) now
+place_steps n k want p (Key errand t number) word now g a e = key_step n k want p errand t number word now g.was a e
+place_steps n k want p (Next errand t) word now g a e = next_step n k want p errand t word now g a e
+place_steps n k want p (Match errand s) word now g a e = match_step n k want p errand s word now g a e
+place_steps n k want p (Counter at last) word now g a e = counter_step n k want p at last word now g.was a e
+place_steps n k want p (Claim at last) word now g a e = claim_step n k want p at last word now g a e
+place_steps n k want p (FillPlace at s from) word now g a e = fill_place_step n k want p at s from word now g a e
+place_steps n k want p (FillKey s from) word now g a e = fill_key_step n k want p s from word now g a e
+place_steps n k want p (Link last new) word now g a e = link_step n k want p last new word now g a e
+
+pub walk_steps : (n : ℕ) (want : Option ℕ) (p : Pool) (w : Walking) (word : ℕ) (now : List ℕ) → IsAt n w.key p → KnowsWalk n w.key want p w.place → Performs (walk_next w) word p.words now → IsWalked n want p w word now
+walk_steps n want p w word now g a e =
+    let c = place_steps n w.key want p w.place word now g a e in
+    record { index = c.index; words = c.words; is = c.is; knows = c.knows; count = c.count }

@@ -1,6 +1,7 @@
 use Rattle.std.specs.Prelude.{◌≡◌, ℕ, ◌+◌, ◌<◌, ◌≤◌, List, Contains, Option, Some, None}
 use Rattle.dn_word.specs.Ref.{ref_word}
 use Rattle.dn_model.specs.Regions.{bucket, home_of}
+use Rattle.dn_index.specs.Walk.{Walking, walk_step}
 use Rattle.dn_index.specs.declared.places.Spot.{Spot}
 use Rattle.dn_index.specs.declared.places.Errand.{Errand}
 use Rattle.dn_index.specs.declared.places.Errand.TheVariants.{Find, Set, Remove}
@@ -84,9 +85,9 @@ asks_at (FillKey s from) = 0
 asks_at (Link last new) = 0
 
 -- what comes of an action that found this word and left these words
-pub record IsWalked (n : ℕ) (want : Option ℕ) (p : Pool) (place : WalkPlace) (k : ℕ) (step : Step) (now : List ℕ) : Type 0 where
+pub record IsWalked (n : ℕ) (want : Option ℕ) (p : Pool) (w : Walking) (word : ℕ) (now : List ℕ) : Type 0 where
   pub index : IndexState
   pub words : index.words ≡ now
-  pub is : IsIndexStep n k want p index
-  pub knows : KnowsStep n k want (with_index p index) step
-  pub count : index.bucket_count ≡ (store_in p).bucket_count + asks_at place
+  pub is : IsIndexStep n w.key want p index
+  pub knows : KnowsStep n w.key want (with_index p index) (walk_step w word)
+  pub count : index.bucket_count ≡ (store_in p).bucket_count + asks_at w.place

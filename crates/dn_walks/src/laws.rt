@@ -37,7 +37,7 @@ pub fn changing()
     ensures steps { (n : ℕ) (want : Option ℕ) (p : Pool) (w : Walking) (word : ℕ) (now : List ℕ)
         → IsWhole p → IsLane n → 0 < w.key → (store_in p).bucket_count + 1 < 2 ^ 64
         → KnowsWalk n w.key want p w.place → Performs (walk_next w) word p.words now
-        → IsWalked n want p w.place w.key (walk_step w word) now }
+        → IsWalked n want p w word now }
     ensures lasts { (n k : ℕ) (want : Option ℕ) (p q : Pool) (place : WalkPlace) → IsLane n
         → IsChainKept n k p q → KnowsWalk n k want p place → KnowsWalk n k want q place }
 {}
