@@ -2,3 +2,4 @@ pub mod Calls
 pub mod Phases
 pub mod Lane
 pub mod Stepped
+pub mod Unmade
