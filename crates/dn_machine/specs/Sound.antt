@@ -1,4 +1,5 @@
-use Rattle.std.specs.Prelude.{◌≡◌, ◌<◌, ◌≤◌, ◌+◌, ℕ, List, Option, Some, None}
+use Rattle.std.specs.Prelude.{◌≡◌, ◌≢◌, ◌<◌, ◌≤◌, ◌+◌, ℕ, List, Option, Some, None}
+use Rattle.dn_hist.specs.Calls.{key_of}
 use Rattle.dn_model.specs.Regions.{IsLane}
 use Rattle.dn_merge.specs.Merge.{Merging}
 use Rattle.dn_monitor.specs.Monitor.{Monitoring}
@@ -29,10 +30,10 @@ claims (Some l) = claims_in l.mode
 abbrev pub claiming : (ℕ → Option LaneState) → ℕ
 claiming lanes = sum_to 63 (λ n. claims (lanes n))
 
--- the call of a lane is under way
+-- the call of a lane is under way, and of a key
 abbrev pub IsCallOf : Callers → Asked → Type 0
 IsCallOf c asked.Nothing = Unit {0}
-IsCallOf c (asked.Call call view room) = IsUnderWay c view
+IsCallOf c (asked.Call call view room) = IsUnderWay c view × (key_of call ≢ 0)
 IsCallOf c asked.Task = Unit {0}
 
 -- Who acts: each by a number of a lane, and each session at one lane at most.
