@@ -2,3 +2,6 @@ pub mod Called
 pub mod Lasts
 pub mod Positions
 pub mod Ends
+pub mod Loads
+pub mod Looks
+pub mod Finds
