@@ -2,3 +2,4 @@ pub mod Called
 pub mod Lasts
 pub mod Positions
 pub mod Ends
+pub mod Rooms
