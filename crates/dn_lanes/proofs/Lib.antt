@@ -6,3 +6,4 @@ pub mod Rooms
 pub mod Loads
 pub mod Looks
 pub mod Finds
+pub mod Opens
