@@ -1,10 +1,9 @@
-use Rattle.std.proofs.Common.{ℕ, ◌+◌, ◌≤◌, ◌<◌, ◌≡◌, inl, Bool, true, false, List, [], Option, Some, None, refl, ◌∙◌, sym, ap, subst, arith}
+use Rattle.std.proofs.Common.{ℕ, ◌≡◌, inl, Bool, true, false, List, Option, Some, None, refl, ◌∙◌, sym, ap, arith}
 use Rattle.dn_word.specs.declared.packed.place.Ref.{Ref}
 use Rattle.dn_act.specs.Action.{Performs}
 use Rattle.dn_record.specs.Record.{value_of}
 use Rattle.dn_record.specs.declared.records.Record.{Record}
 use Rattle.dn_hist.specs.Calls.{found_of}
-use Rattle.dn_hist.specs.declared.calls.Call.{Call}
 use Rattle.dn_hist.specs.declared.calls.Call.TheVariants.{Get, Put, Delete}
 use Rattle.dn_hist.specs.declared.receipts.SessionView.{SessionView}
 use Rattle.dn_index.specs.Walk.{Walking, walk_after, walk_turn}

@@ -1,4 +1,4 @@
-use Rattle.std.proofs.Common.{ℕ, ◌+◌, ◌≤◌, ◌<◌, ◌≡◌, ◌==◌, inl, Bool, true, false, List, [], Option, Some, None, slice_index, slice_set, if◌then◌else◌, refl, ◌∙◌, sym, ap, subst, arith}
+use Rattle.std.proofs.Common.{ℕ, ◌≡◌, ◌==◌, inl, Bool, true, false, List, Option, Some, None, slice_index, slice_set, if◌then◌else◌, refl, ◌∙◌, sym, ap, subst, arith}
 use Rattle.dn_word.specs.Deed.{deed_of}
 use Rattle.dn_word.specs.declared.packed.place.Ref.{Ref}
 use Rattle.dn_act.specs.Action.{Performs}
@@ -23,16 +23,13 @@ use Rattle.dn_known.specs.State.{KnownState}
 use Rattle.dn_known.specs.Learnt.{met}
 use Rattle.dn_known.specs.Counting.{pending_of}
 use Rattle.dn_store.specs.State.{StoreState}
-use Rattle.dn_owners.specs.Known.{Look}
 use Rattle.dn_lane2.specs.Asked.{kind_of, call_in}
 use Rattle.dn_lane2.specs.State.{LaneState}
 use Rattle.dn_lane2.specs.Taken.{by, entered_next, taken_by}
 use Rattle.dn_lane2.specs.declared.asked.Asked.{Asked}
 use Rattle.dn_lane2.specs.declared.base.Base.{Base}
-use Rattle.dn_lane2.specs.declared.modes.Mode.{Mode}
 use Rattle.dn_lane2.specs.declared.modes.Mode.TheVariants as mode
 use Rattle.dn_beside.specs.Pool.{Pool, store_in, IsWhole}
-use Rattle.dn_learnt.specs.Learning.{Learns}
 use Rattle.dn_learnt.specs.Heeding.{look_by, IsLooked}
 use Rattle.dn_learnt.specs.Pendings.{MayAsk, IsPendingAt, HasNone}
 use Rattle.dn_learnt.proofs.Looks.{looked, unlooked}
@@ -43,11 +40,11 @@ use Rattle.dn_reach.proofs.Lasts.{log_lasts}
 use Rattle.dn_seek.specs.Seeking.{KnowsSeek}
 use Rattle.dn_seek.proofs.Seeks.{begun_pending}
 use Rattle.dn_seek.proofs.Loads.{begins_loading}
-use Rattle.dn_lanes.specs.Calls.{IsCalled, key_in, HasLook}
+use Rattle.dn_lanes.specs.Calls.{key_in}
 use Rattle.dn_lanes.specs.Lane.{IsLaneAt}
 use Rattle.dn_lanes.specs.Stepped.{ComesTo}
 use Rattle.dn_lanes.proofs.Ends.{HasDone, own_lesson, ends_so, goes_so}
-use Rattle.dn_lanes.proofs.Loads.{loads, same_step, same_quiet, done_same, not_owner_untold}
+use Rattle.dn_lanes.proofs.Loads.{loads, same_step, same_quiet, not_owner_untold}
 
 -- A lane loads the deed of its call's key.
 
@@ -109,7 +106,7 @@ owner_looks p g a word now h owner =
     goes_so p s.q n (looking g a) now (record g { known = k; fetch = l.fetch }) a (mode.Finding (locate.Call (Owner word)) l.find) done s.lesson.quiet
     (h.at.at.0, (record { called = h.at.at.1.0; looked = s.looked.look }, begins_loading (key_in a) wish g.fetch (pending_of k (key_in a))))
     (λ clear. seeks_from s.q n (key_in a) wish g.fetch k (pending_of k (key_in a)) s.lesson.by.whole segments log.lane
-      (record { learns = s.learns; look = look_by (slot_of (key_in a)) word; looks = s.looked.look; slot = refl; clear = clear }) refl)
+    (record { learns = s.learns; look = look_by (slot_of (key_in a)) word; looks = s.looked.look; slot = refl; clear = clear }) refl)
     (inl (omega (arith, ap (λ (t : StoreState). t.segment_count) s.lesson.store)))
 
 -- ---- by another one its call ends

@@ -1,8 +1,6 @@
-use Rattle.std.proofs.Common.{ℕ, ◌+◌, ◌-◌, ◌^◌, ◌≤◌, ◌<◌, ◌≡◌, ◌⊎◌, inl, inr, max, Bool, true, false, List, [], Option, Some, None, if◌then◌else◌, refl, ◌∙◌, sym, ap, subst, arith}
-use Rattle.dn_word.specs.Deed.{deed_of}
+use Rattle.std.proofs.Common.{ℕ, ◌-◌, ◌^◌, ◌≤◌, ◌≡◌, inl, inr, max, Bool, true, false, List, Option, Some, None, if◌then◌else◌, refl, ◌∙◌, sym, ap, arith}
 use Rattle.dn_word.specs.Gate.{gate_of}
 use Rattle.dn_word.specs.Need.{quiet_of, raised_of}
-use Rattle.dn_word.specs.declared.packed.deed.Deed.{Deed}
 use Rattle.dn_word.specs.declared.packed.gate.Gate.{Gate}
 use Rattle.dn_word.specs.declared.positions.Need.{Need}
 use Rattle.dn_word.specs.declared.positions.Position.{Position}
@@ -11,18 +9,15 @@ use Rattle.dn_act.specs.declared.actions.Action.TheVariants.{Load}
 use Rattle.dn_act.specs.Words.{word_at}
 use Rattle.dn_record.specs.Record.{value_of}
 use Rattle.dn_hist.specs.Calls.{found_of}
-use Rattle.dn_hist.specs.declared.calls.Call.{Call}
 use Rattle.dn_hist.specs.declared.calls.Call.TheVariants.{Get, Put, Delete}
 use Rattle.dn_hist.specs.declared.receipts.Receipt.{Receipt}
 use Rattle.dn_hist.specs.declared.receipts.SessionView.{SessionView}
-use Rattle.dn_model.specs.Held.{Found, Says}
+use Rattle.dn_model.specs.Held.{Says}
 use Rattle.dn_model.specs.Regions.{gate_at, slot_of, IsLane}
 use Rattle.dn_plan.specs.Fit.{IsRead as IsReadKind, IsWrite as IsWriteKind}
-use Rattle.dn_plan.specs.Plan.{need_of, raised_at, raises, reads, writes, opened, barred, goes as plan_goes, gated}
+use Rattle.dn_plan.specs.Plan.{need_of, raised_at, raises, reads, writes, opened, barred, goes as plan_goes}
 use Rattle.dn_plan.specs.declared.phases.ActPhase.TheVariants as phase
 use Rattle.dn_plan.specs.declared.phases.Located.{Located}
-use Rattle.dn_plan.specs.declared.phases.Raised.{Raised}
-use Rattle.dn_plan.specs.declared.results.After.{After}
 use Rattle.dn_plan.specs.declared.results.Ending.TheVariants.{Made, Fenced, Worn}
 use Rattle.dn_plan.specs.declared.results.Next.TheVariants as next
 use Rattle.dn_ask.specs.Ask.{call_after, call_step}
@@ -32,25 +27,24 @@ use Rattle.dn_store.specs.Holding.{holds}
 use Rattle.dn_owners.specs.Known.{Look}
 use Rattle.dn_owners.specs.Sound.{IsHeld}
 use Rattle.dn_lane2.specs.Asked.{brief_of}
-use Rattle.dn_lane2.specs.Ends.{receipt_of, reply_in}
+use Rattle.dn_lane2.specs.Ends.{receipt_of}
 use Rattle.dn_lane2.specs.State.{LaneState}
 use Rattle.dn_lane2.specs.Taken.{by, entered, entered_after, taken_by}
 use Rattle.dn_lane2.specs.declared.asked.Asked.{Asked}
 use Rattle.dn_lane2.specs.declared.asked.Asked.TheVariants as asked
 use Rattle.dn_lane2.specs.declared.base.Base.{Base}
-use Rattle.dn_lane2.specs.declared.modes.Going.TheVariants.{On, End}
+use Rattle.dn_lane2.specs.declared.modes.Going.TheVariants.{End}
 use Rattle.dn_lane2.specs.declared.modes.Mode.TheVariants as mode
 use Rattle.dn_beside.specs.Pool.{Pool, store_in, IsWhole}
 use Rattle.dn_learnt.specs.Heeding.{look_by}
-use Rattle.dn_receipts.specs.Joined.{IsRead}
 use Rattle.dn_seek.proofs.Seeks.{agreed_held}
-use Rattle.dn_lanes.specs.Calls.{IsCalled, key_in, HasLook, HasRaised}
-use Rattle.dn_lanes.specs.Phases.{IsReply, KnowsReply, KnowsGate}
+use Rattle.dn_lanes.specs.Calls.{HasLook, HasRaised}
+use Rattle.dn_lanes.specs.Phases.{IsReply}
 use Rattle.dn_lanes.specs.Lane.{IsLaneAt}
-use Rattle.dn_lanes.specs.Stepped.{IsOfCall, ComesTo}
+use Rattle.dn_lanes.specs.Stepped.{ComesTo}
 use Rattle.dn_lanes.proofs.Positions.{IsQuietAt, quiet_is}
 use Rattle.dn_lanes.proofs.Ends.{HasDone, IsMaking, ends_so, goes_so, made_so}
-use Rattle.dn_lanes.proofs.Loads.{loads, same_step, same_quiet, done_same, fenced_untold, worn_untold}
+use Rattle.dn_lanes.proofs.Loads.{loads, same_quiet, done_same, fenced_untold, worn_untold}
 use Rattle.dn_lanes.proofs.Rooms.{rooms_from}
 
 -- A lane loads its gate, once the key of its call is located.
