@@ -2,3 +2,5 @@ pub mod Calls
 pub mod Phases
 pub mod Lane
 pub mod Stepped
+pub mod Unmade
+pub mod Begun
