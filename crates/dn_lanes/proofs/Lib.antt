@@ -4,3 +4,4 @@ pub mod Positions
 pub mod Ends
 pub mod Unmade
 pub mod GivenUp
+pub mod Begins
