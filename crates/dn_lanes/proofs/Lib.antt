@@ -5,3 +5,5 @@ pub mod Ends
 pub mod Unmade
 pub mod GivenUp
 pub mod Begins
+pub mod Heeds
+pub mod Tasks
