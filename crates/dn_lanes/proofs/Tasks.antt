@@ -19,7 +19,7 @@ use Rattle.dn_owners.specs.Events.{Release, happens}
 use Rattle.dn_owners.specs.Given.{IsGiven, IsStep}
 use Rattle.dn_owners.proofs.Logs.{ordered}
 use Rattle.dn_owners.proofs.Tables.{held_after}
-use Rattle.dn_tend.specs.Tend.{given_up, asks_to_leave, acts, ends as ends_by}
+use Rattle.dn_tend.specs.Tend.{action_in, given_up, asks_to_leave, acts, ends as ends_by}
 use Rattle.dn_tend.specs.declared.phases.TendAct.{TendAct}
 use Rattle.dn_tend.specs.declared.phases.TendAct.TheVariants as at
 use Rattle.dn_tend.specs.declared.tasks.TaskAnswer.TheVariants.{Released as Was_released, NotLeaving, Trimmed, Again}
@@ -230,3 +230,20 @@ mark_taken p g a word now h did =
     ends_so p t.q n (tending g a at.Mark) now (record g { known = k }) a (end.Task (Trimmed word))
     (has_learnt p t.q n now g k (found_so p n g a at.Mark h) f.stays t.lesson refl t.learns)
     t.lesson.quiet h.at.at.0 refl (omega (arith, ap (λ (s : StoreState). s.segment_count) t.lesson.store))
+
+-- ---- whichever action it is
+pub task_taken : (p : Pool) (g : Base) (a : Asked) (phase : TendAct) (word : ℕ) (now : List ℕ) → IsTendingAt p g.known.log.lane g a phase → Performs (action_in g.known.log.lane phase) word p.words now
+    → LaneStepped p g.known.log.lane (tending g a phase) word now
+task_taken p g a (at.Deed slot) word now h did = deed_taken p g a slot word now h did
+task_taken p g a (at.GiveUp slot deed) word now h did = given_taken p g a slot deed word now h did
+task_taken p g a at.Mark word now h did = mark_taken p g a word now h did
+task_taken p g a (at.ShareLook key) word now h did = absurd h.at.at.1
+task_taken p g a (at.ShareGate key look place) word now h did = absurd h.at.at.1
+task_taken p g a (at.Count share) word now h did = absurd h.at.at.1
+task_taken p g a (at.Claim share) word now h did = absurd h.at.at.1
+task_taken p g a (at.Name share cell) word now h did = absurd h.at.at.1
+task_taken p g a (at.Open share cell) word now h did = absurd h.at.at.1
+task_taken p g a (at.UnshareLook key) word now h did = absurd h.at.at.1
+task_taken p g a (at.UnshareGate unshare) word now h did = absurd h.at.at.1
+task_taken p g a (at.Cell unshare gate) word now h did = absurd h.at.at.1
+task_taken p g a (at.Close unshare gate seen stamp) word now h did = absurd h.at.at.1
