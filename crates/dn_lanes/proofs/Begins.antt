@@ -1,10 +1,9 @@
-use Rattle.std.proofs.Common.{ℕ, ◌+◌, ◌<◌, ◌≤◌, ◌≡◌, ◌≢◌, ◌⊎◌, inl, inr, ◌^◌, List, [], Option, Some, None, refl, sym, ◌∙◌, ap, subst, arith}
+use Rattle.std.proofs.Common.{ℕ, ◌+◌, ◌<◌, ◌≤◌, ◌≡◌, inl, inr, ◌^◌, List, [], Option, Some, None, refl, sym, ◌∙◌, ap, subst, arith}
 use Rattle.dn_hist.specs.Calls.{key_of}
 use Rattle.dn_hist.specs.declared.calls.Call.{Call}
 use Rattle.dn_hist.specs.declared.calls.Call.TheVariants.{Get, Put, Delete}
 use Rattle.dn_hist.specs.declared.receipts.Receipt.{Receipt}
 use Rattle.dn_hist.specs.declared.receipts.SessionView.{SessionView}
-use Rattle.dn_log.specs.Log.{Log}
 use Rattle.dn_model.specs.Held.{record_at}
 use Rattle.dn_model.specs.Regions.{IsLane}
 use Rattle.dn_store.specs.State.{StoreState}
@@ -16,19 +15,17 @@ use Rattle.dn_ask.specs.declared.asks.Act.TheVariants as act
 use Rattle.dn_lane2.specs.State.{LaneState, fresh, reserved, begun, begun_task, first_of}
 use Rattle.dn_lane2.specs.Taken.{Taken}
 use Rattle.dn_lane2.specs.Turns.{turned, left}
-use Rattle.dn_lane2.specs.declared.asked.Asked.{Asked}
 use Rattle.dn_lane2.specs.declared.asked.Asked.TheVariants as asked
-use Rattle.dn_lane2.specs.declared.modes.Mode.{Mode}
 use Rattle.dn_lane2.specs.declared.modes.Mode.TheVariants as mode
 use Rattle.dn_beside.specs.Pool.{Pool, store_in, IsWhole}
-use Rattle.dn_beside.specs.Step.{IsQuiet, by_lane}
-use Rattle.dn_beside.proofs.Chained.{step_then, quiet_then}
+use Rattle.dn_beside.specs.Step.{by_lane}
+use Rattle.dn_beside.proofs.Chained.{step_then}
 use Rattle.dn_learnt.specs.Learning.{Learns}
-use Rattle.dn_learnt.specs.Heeding.{IsLesson, IsTaught, IsStopped}
+use Rattle.dn_learnt.specs.Heeding.{IsTaught, IsStopped}
 use Rattle.dn_learnt.proofs.Lessons.{begins, stops}
 use Rattle.dn_reach.specs.OwnLog.{HoldsLog, empty_log}
 use Rattle.dn_reach.proofs.Lasts.{log_begins, log_lasts}
-use Rattle.dn_receipts.specs.Joined.{IsElsewhere, IsRead, IsWritten, IsEffect, IsJoined, Joins}
+use Rattle.dn_receipts.specs.Joined.{IsWritten, IsEffect, Joins}
 use Rattle.dn_lanes.specs.Calls.{IsCall}
 use Rattle.dn_lanes.specs.Phases.{IsAt, LooksAtNothing, IsActing}
 use Rattle.dn_lanes.specs.Lane.{IsLaneAt}

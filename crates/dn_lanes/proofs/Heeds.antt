@@ -1,4 +1,4 @@
-use Rattle.std.proofs.Common.{ℕ, ◌<◌, ◌≡◌, Bool, true, false, ◌==◌, if◌then◌else◌, List, Option, None, slice_index, slice_set, refl, sym, ◌∙◌, ap, subst, arith}
+use Rattle.std.proofs.Common.{ℕ, ◌<◌, ◌≡◌, Bool, true, false, ◌==◌, if◌then◌else◌, List, None, slice_index, slice_set, refl, sym, ◌∙◌, ap, subst, arith}
 use Rattle.dn_act.specs.Action.{Performs}
 use Rattle.dn_act.specs.declared.actions.Action.TheVariants.{Load}
 use Rattle.dn_word.specs.Deed.{deed_of}
@@ -9,11 +9,11 @@ use Rattle.dn_known.specs.State.{KnownState}
 use Rattle.dn_known.specs.Learnt.{met}
 use Rattle.dn_lane2.specs.declared.base.Base.{Base}
 use Rattle.dn_beside.specs.Pool.{Pool, store_in, IsWhole}
-use Rattle.dn_beside.specs.Step.{IsStepBy, by_lane}
+use Rattle.dn_beside.specs.Step.{by_lane}
 use Rattle.dn_beside.proofs.Still.{learning_step, quiet_still}
 use Rattle.dn_beside.proofs.Chained.{step_then, quiet_then}
 use Rattle.dn_learnt.specs.Learning.{Learns}
-use Rattle.dn_learnt.specs.Heeding.{HasLooked, IsLesson, IsLooked, IsTaught, IsTrimmed}
+use Rattle.dn_learnt.specs.Heeding.{HasLooked, IsLesson, IsLooked, IsTaught}
 use Rattle.dn_learnt.proofs.Looks.{looked, unlooked}
 use Rattle.dn_learnt.proofs.Lessons.{ends}
 use Rattle.dn_reach.specs.OwnLog.{HoldsLog}
@@ -98,7 +98,7 @@ pub seen : (p : Pool) (n slot word : ℕ) (now : List ℕ) (g : Base) → IsHeed
 seen p n slot word now g h o =
     let f : HasLoaded (deed_at slot) word p.words now = loaded p n slot word now g h in
     let l : IsLooked p n slot word g.known =
-        looked p n slot word g.known (record { whole = h.found.whole; lane = h.lane; there = h.there; learns = h.found.learns; len = sym h.found.log.len; found = f.word_is }) o in
+    looked p n slot word g.known (record { whole = h.found.whole; lane = h.lane; there = h.there; learns = h.found.learns; len = sym h.found.log.len; found = f.word_is }) o in
     let k : KnownState = met g.known slot (deed_of word).epoch in
     record {
       q = l.q;

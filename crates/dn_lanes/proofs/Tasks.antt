@@ -1,4 +1,4 @@
-use Rattle.std.proofs.Common.{ℕ, ◌+◌, ◌*◌, ◌<◌, ◌≤◌, ◌≡◌, ◌≢◌, ◌⊎◌, inl, inr, Bool, true, false, ◌==◌, nat_eq, if◌then◌else◌, List, [], Option, None, slice_set, refl, sym, ◌∙◌, ap, subst, arith}
+use Rattle.std.proofs.Common.{ℕ, ◌<◌, ◌≡◌, ◌≢◌, ◌⊎◌, inl, inr, Bool, true, false, ◌==◌, nat_eq, if◌then◌else◌, List, [], None, slice_set, refl, sym, ◌∙◌, ap, subst, arith}
 use Rattle.std.proofs.lemmas.Bool.Decides.{nat_tests}
 use Rattle.dn_act.specs.Action.{Performs}
 use Rattle.dn_act.specs.declared.actions.Action.TheVariants.{Load, Cas}
@@ -6,16 +6,13 @@ use Rattle.dn_act.specs.Words.{word_at}
 use Rattle.dn_act.proofs.Words.{word_at-set_other}
 use Rattle.dn_word.specs.Deed.{deed_of}
 use Rattle.dn_word.specs.declared.packed.deed.Deed.{Deed}
-use Rattle.dn_word.specs.declared.packed.deed.DeedState.{DeedState}
 use Rattle.dn_word.specs.declared.packed.deed.DeedState.TheVariants.{Nobody, Owned, Leaving, Released}
-use Rattle.dn_model.specs.Regions.{gate_at, mark_at, deed_at, directory_at, IsLane}
+use Rattle.dn_model.specs.Regions.{mark_at, deed_at, IsLane}
 use Rattle.dn_store.specs.State.{StoreState, with_at}
 use Rattle.dn_store.proofs.At.{at_by}
 use Rattle.dn_known.specs.State.{KnownState}
 use Rattle.dn_known.specs.Learnt.{kept_past}
-use Rattle.dn_owners.specs.Known.{Knows}
-use Rattle.dn_owners.specs.Sound.{IsOrdered}
-use Rattle.dn_owners.specs.Events.{Release, happens}
+use Rattle.dn_owners.specs.Events.{Release}
 use Rattle.dn_owners.specs.Given.{IsGiven, IsStep}
 use Rattle.dn_owners.proofs.Logs.{ordered}
 use Rattle.dn_owners.proofs.Tables.{held_after}
@@ -27,10 +24,9 @@ use Rattle.dn_ask.specs.Ask.{task_next}
 use Rattle.dn_ask.specs.declared.asks.Act.TheVariants as act
 use Rattle.dn_ask.specs.declared.asks.End.TheVariants as end
 use Rattle.dn_lane2.specs.State.{LaneState}
-use Rattle.dn_lane2.specs.Taken.{Taken, by, entered_next}
+use Rattle.dn_lane2.specs.Taken.{by, entered_next}
 use Rattle.dn_lane2.specs.declared.asked.Asked.{Asked}
 use Rattle.dn_lane2.specs.declared.base.Base.{Base}
-use Rattle.dn_lane2.specs.declared.modes.Mode.{Mode}
 use Rattle.dn_lane2.specs.declared.modes.Mode.TheVariants as mode
 use Rattle.dn_beside.specs.Pool.{Pool, store_in, IsWhole, IsDeed}
 use Rattle.dn_beside.specs.Lanes.{IsMoved, LeavesOwn}
@@ -38,19 +34,18 @@ use Rattle.dn_beside.specs.Orders.{LeavesOrder}
 use Rattle.dn_beside.specs.Step.{IsStepBy, IsQuiet, by_lane}
 use Rattle.dn_beside.proofs.Apart.{own_apart}
 use Rattle.dn_beside.proofs.Low.{after_event}
-use Rattle.dn_beside.proofs.Deeds.{IsDeedEvent, deed_step}
+use Rattle.dn_beside.proofs.Deeds.{deed_step}
 use Rattle.dn_learnt.specs.Learning.{Learns}
-use Rattle.dn_learnt.specs.Heeding.{IsLesson, IsTrimmed}
+use Rattle.dn_learnt.specs.Heeding.{IsTrimmed}
 use Rattle.dn_learnt.proofs.Lessons.{heeds_moved, trims_step}
-use Rattle.dn_reach.specs.OwnLog.{HoldsLog}
 use Rattle.dn_reach.proofs.Lasts.{log_lasts}
 use Rattle.dn_reach.proofs.Gates.{missed}
 use Rattle.dn_seek.proofs.Spelled.{HasLoaded, loads}
 use Rattle.dn_lanes.specs.Lane.{IsLaneAt}
 use Rattle.dn_lanes.specs.Stepped.{ComesTo, LaneStepped}
 use Rattle.dn_lanes.proofs.Ends.{HasDone, ends_so, goes_so}
-use Rattle.dn_lanes.proofs.GivenUp.{IsAsked, is_asked, gives_up}
-use Rattle.dn_lanes.proofs.Heeds.{HasFound, IsHeeding, IsHeeded, still_lesson, has_learnt, heeding, heeded}
+use Rattle.dn_lanes.proofs.GivenUp.{is_asked, gives_up}
+use Rattle.dn_lanes.proofs.Heeds.{HasFound, IsHeeded, still_lesson, has_learnt, heeding, heeded}
 
 -- A lane's tasks that concern no shared key: it gives up a slot that it was asked to leave, and drops what is merged.
 

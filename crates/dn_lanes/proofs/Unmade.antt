@@ -1,6 +1,6 @@
-use Rattle.std.proofs.Common.{ℕ, ◌+◌, ◌*◌, ◌<◌, ◌≡◌, inr, refl, ◌∙◌, ap, arith}
+use Rattle.std.proofs.Common.{ℕ, ◌≡◌, inr, ◌∙◌, ap, arith}
 use Rattle.dn_model.specs.Regions.{directory_at}
-use Rattle.dn_store.specs.Fresh.{IsFreshPool, no_overflow}
+use Rattle.dn_store.specs.Fresh.{IsFreshPool}
 use Rattle.dn_owners.specs.Known.{Owners}
 use Rattle.dn_owners.specs.Fresh.{fresh_owners}
 use Rattle.dn_beside.specs.Pool.{Pool}
