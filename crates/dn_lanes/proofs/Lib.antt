@@ -7,3 +7,8 @@ pub mod Loads
 pub mod Looks
 pub mod Finds
 pub mod Opens
+pub mod Unmade
+pub mod GivenUp
+pub mod Begins
+pub mod Heeds
+pub mod Tasks

@@ -3,3 +3,4 @@ pub mod Phases
 pub mod Lane
 pub mod Stepped
 pub mod Unmade
+pub mod Begun

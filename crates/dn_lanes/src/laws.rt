@@ -1,6 +1,6 @@
 //! What is so of a lane among others, as functions without work: what each says is its contract.
 
-ghost use Rattle.std.specs.Prelude.{◌≡◌, ◌<◌, ◌^◌, ◌-◌, ℕ, Some, List};
+ghost use Rattle.std.specs.Prelude.{◌≡◌, ◌≤◌, ◌<◌, ◌^◌, ◌-◌, ℕ, Some, List};
 ghost use Rattle.dn_act.specs.Action.{Performs};
 ghost use Rattle.dn_act.specs.declared.actions.Action.{Action};
 ghost use Rattle.dn_model.specs.Regions.{IsLane};
@@ -9,11 +9,50 @@ ghost use Rattle.dn_lane2.specs.Next.{next_of};
 ghost use Rattle.dn_beside.specs.Pool.{Pool, IsWhole, store_in};
 ghost use Rattle.dn_beside.specs.Grown.{Grows};
 ghost use Rattle.dn_beside.specs.Lanes.{LeavesLane};
+ghost use Rattle.dn_hist.specs.declared.calls.Call.{Call};
+ghost use Rattle.dn_hist.specs.declared.receipts.SessionView.{SessionView};
+ghost use Rattle.dn_tend.specs.declared.tasks.Task.{Task};
+ghost use Rattle.dn_lane2.specs.State.{fresh, begun, begun_task};
+ghost use Rattle.dn_lane2.specs.Taken.{Taken};
+ghost use Rattle.dn_lane2.specs.declared.modes.Mode.TheVariants.{Idle};
+ghost use Rattle.dn_store.specs.Fresh.{IsFreshPool};
+ghost use Rattle.dn_owners.specs.Fresh.{fresh_owners};
+ghost use Rattle.dn_lanes.specs.Calls.{IsCall};
 ghost use Rattle.dn_lanes.specs.Lane.{IsLaneAt};
+ghost use Rattle.dn_lanes.specs.Stepped.{ComesTo};
+ghost use Rattle.dn_lanes.specs.Unmade.{IsUnmade};
+ghost use Rattle.dn_lanes.specs.Begun.{IsOwnTask, IsMade, IsStoppedAt};
 ghost use Rattle.dn_lanes.specs.Stepped.{LaneStepped};
 
 /// What a lane knows at any phase lasts under the steps of all others.
 pub fn lasting()
     ensures { (n : ℕ) (l : LaneState) (p q : Pool) → IsWhole p → IsWhole q → IsLane n → Grows p q
         → LeavesLane n p q → IsLaneAt n l p → IsLaneAt n l q }
+{}
+
+/// A lane with nothing under way begins a call, or a task that concerns no shared key.
+pub fn beginning()
+    ensures call { (n : ℕ) (l : LaneState) (view : SessionView) (call : Call) (p : Pool)
+        → IsLaneAt n l p → l.mode ≡ Idle → IsCall call → view.last.stamp < 2 ^ 31
+        → IsLaneAt n (begun l view call) p }
+    ensures task { (n : ℕ) (l : LaneState) (t : Task) (p : Pool) → IsLaneAt n l p → l.mode ≡ Idle
+        → IsOwnTask t → IsLaneAt n (begun_task l t) p }
+{}
+
+/// A lane that was never made begins with an empty log and nothing under way. Steps of others leave it unmade, and so is
+/// every lane in a fresh pool.
+pub fn making()
+    ensures lane { (p : Pool) (n segments : ℕ) → IsWhole p → IsLane n → IsUnmade p n
+        → segments ≡ (store_in p).pool → segments ≤ 8192 → IsMade p n (fresh n segments) }
+    ensures lasts { (n : ℕ) (p q : Pool) → LeavesLane n p q → IsUnmade p n → IsUnmade q n }
+    ensures first { (p : Pool) (n pool lanes : ℕ) (owners : ℕ → ℕ)
+        → IsFreshPool p.words pool lanes owners → p.owners ≡ fresh_owners pool lanes owners
+        → IsUnmade p n }
+{}
+
+/// A lane that is stopped at an action that was done: the receipt of that action joins, and nothing is known of the lane
+/// any more.
+pub fn stopping()
+    ensures { (p : Pool) (n : ℕ) (l : LaneState) (now : List ℕ) (t : Taken) → ComesTo p n l now t
+        → IsStoppedAt p n l now t }
 {}
