@@ -50,7 +50,7 @@ pub record IsLaneChange (p q : Pool) (m : Machine) (n : ℕ) (was : LaneState) (
   pub by : IsStepBy (by_lane n) p q
   pub lane : (x : LaneState) → l ≡ Some x → IsLaneAt n x q
   pub call : (x : LaneState) → l ≡ Some x → IsCallOf c x.asked
-  pub session : (s : ℕ) (x : LaneState) → l ≡ Some x → IsOfSession s x.asked → IsOfSession s was.asked
+  pub alone : (s : ℕ) (x : LaneState) → l ≡ Some x → IsOfSession s x.asked → (k : ℕ) (y : LaneState) → k ≢ n → m.lanes k ≡ Some y → IsOfSession s y.asked → ⊥
   pub others : (k : ℕ) (x : LaneState) → m.lanes k ≡ Some x → k ≢ n → IsCallOf c x.asked
   pub receipts : AreReceipts q (receipts_of c.receipts)
   pub callers : AreSessions c
@@ -94,16 +94,23 @@ lane_changes p q m words n was l c ws h =
       callers = h.callers;
     }
   where
-    -- which lane had the session's call before
-    before : (j s : ℕ) (x : LaneState) → with_at m.lanes n l j ≡ Some x → IsOfSession s x.asked → (y : LaneState) × (m.lanes j ≡ Some y) × IsOfSession s y.asked
-    before j s = at_by (λ o. (x : LaneState) → o ≡ Some x → IsOfSession s x.asked → (y : LaneState) × (m.lanes j ≡ Some y) × IsOfSession s y.asked) m.lanes n l j
-        (λ e x f i. (was, ap m.lanes e ∙ h.was_there, h.session s x f i)) (λ d x f i. (x, f, i))
-
     alone : (j k s : ℕ) (x y : LaneState) → with_at m.lanes n l j ≡ Some x → with_at m.lanes n l k ≡ Some y → IsOfSession s x.asked → IsOfSession s y.asked → j ≡ k
-    alone j k s x y f g i o =
-        let u = before j s x f i in
-        let v = before k s y g o in
-        h.at_p.actors.alone j k s u.0 v.0 u.1 v.1 u.2 v.2
+    alone j k s x y f g i o = elim (cases_eq j n) [
+      | inl e ↦ elim (cases_eq k n) [
+        | inl u ↦ e ∙ sym u
+        | inr d ↦ absurd (h.alone s x (sym (at_same m.lanes n l j e) ∙ f) i k y d (sym (at_other m.lanes n l k d) ∙ g) o)
+      ]
+      | inr d ↦ elim (cases_eq k n) [
+        | inl u ↦ absurd (h.alone s y (sym (at_same m.lanes n l k u) ∙ g) o j x d (sym (at_other m.lanes n l j d) ∙ f) i)
+        | inr c ↦ h.at_p.actors.alone j k s x y (sym (at_other m.lanes n l j d) ∙ f) (sym (at_other m.lanes n l k c) ∙ g) i o
+      ]
+    ]
+
+-- a lane that keeps the call that it had
+pub keeps_alone : (p : Pool) (m : Machine) (n : ℕ) (was : LaneState) (l : Option LaneState) → IsMachineAt p m → m.lanes n ≡ Some was
+    → ((s : ℕ) (x : LaneState) → l ≡ Some x → IsOfSession s x.asked → IsOfSession s was.asked)
+    → (s : ℕ) (x : LaneState) → l ≡ Some x → IsOfSession s x.asked → (k : ℕ) (y : LaneState) → k ≢ n → m.lanes k ≡ Some y → IsOfSession s y.asked → ⊥
+keeps_alone p m n was l h is same s x f i k y d g o = d (sym (h.actors.alone n k s was y is g (same s x f i) o))
 
 -- ---- the sum of those that ask for a segment
 pub claims_change : (lanes : ℕ → Option LaneState) (n : ℕ) (was : LaneState) (l : Option LaneState) → IsLane n → lanes n ≡ Some was → claiming (with_at lanes n l) + claims (Some was) ≡ claiming lanes + claims l
@@ -171,7 +178,7 @@ acted_so p m n l now t h = by_receipt (receipt_by (turned t)) refl where
     by = h.comes.by;
     lane = lane_is;
     call = λ x f. subst (λ (y : LaneState). IsCallOf m.callers y.asked) (same_some (left t) x f) (call_left m.callers l.asked t h.same (h.at_p.actors.calls n l h.there));
-    session = session_is;
+    alone = keeps_alone p m n l (Some (left t)) h.at_p h.there session_is;
     others = λ k x f d. h.at_p.actors.calls k x f;
     receipts = none_joins p q (receipts_of m.callers.receipts) h.at_p.receipts h.comes.by.grows (subst (λ o. Joins p q o) e h.comes.joins);
     callers = h.at_p.callers;
@@ -193,7 +200,7 @@ acted_so p m n l now t h = by_receipt (receipt_by (turned t)) refl where
         by = h.comes.by;
         lane = lane_is;
         call = λ x f. subst (λ (y : LaneState). IsCallOf (answered_by m.callers r) y.asked) (same_some (left t) x f) (subst (IsCallOf (answered_by m.callers r)) (sym (gone t r e)) tt);
-        session = session_is;
+        alone = keeps_alone p m n l (Some (left t)) h.at_p h.there session_is;
         others = λ k x f d. others_so m.callers (answered_by m.callers r) r x.asked (λ view. answered_calls m.callers r view) (h.at_p.actors.calls k x f)
             (λ i. d (sym (h.at_p.actors.alone n k r.position.session l x h.there f mine i)));
         receipts = subst (AreReceipts q) (sym (one_more m.callers.receipts (record { receipt = r; answered = true })))

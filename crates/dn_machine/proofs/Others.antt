@@ -12,7 +12,7 @@ use Rattle.dn_orders.proofs.Lasting.{lasts as order_lasts}
 use Rattle.dn_lanes.specs.Lane.{IsLaneAt}
 use Rattle.dn_lanes.specs.Unmade.{IsUnmade}
 use Rattle.dn_lanes.proofs.Lasts.{lane_lasts}
-use Rattle.dn_beside.specs.Lanes.{LeavesLane}
+use Rattle.dn_lanes.proofs.Unmade.{unmade_lasts as unmade_stays}
 use Rattle.dn_machine.specs.State.{Machine}
 use Rattle.dn_machine.specs.Sound.{AreActors, KnowPool, IsMachineAt}
 
@@ -32,8 +32,5 @@ mergers_last a p q m n x h s is d =
 pub monitor_lasts : (a : Acting) (p q : Pool) (m : Machine) (x : Monitoring) → IsMachineAt p m → IsStepBy a p q → m.monitor ≡ Some x → a.monitor ≡ false → KnowsOrder q x
 monitor_lasts a p q m x h s is f = order_lasts p q x (h.know.monitor x is) s.grows (s.order f)
 
-unmade_stays : (p q : Pool) (n : ℕ) → LeavesLane n p q → IsUnmade p n → IsUnmade q n
-unmade_stays p q n s h = record { log = s.log ∙ h.log; len = s.own.len ∙ h.len; directory = λ i lt. s.own.directory i lt ∙ h.directory i lt }
-
 pub unmade_lasts : (a : Acting) (p q : Pool) (m : Machine) (n : ℕ) → IsMachineAt p m → IsStepBy a p q → IsLane n → m.mergers n ≡ None → n ≢ a.lane → IsUnmade q n
-unmade_lasts a p q m n h s l is d = unmade_stays p q n (s.lanes n l d) (h.know.unmade n l is)
+unmade_lasts a p q m n h s l is d = unmade_stays n p q (s.lanes n l d) (h.know.unmade n l is)
