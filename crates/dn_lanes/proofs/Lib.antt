@@ -3,3 +3,5 @@ pub mod Lasts
 pub mod Positions
 pub mod Ends
 pub mod Rooms
+pub mod Exchanges
+pub mod Raises
