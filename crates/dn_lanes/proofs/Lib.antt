@@ -5,3 +5,4 @@ pub mod Ends
 pub mod Rooms
 pub mod Exchanges
 pub mod Raises
+pub mod Flowing
