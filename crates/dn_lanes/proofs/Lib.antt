@@ -6,3 +6,4 @@ pub mod Rooms
 pub mod Exchanges
 pub mod Raises
 pub mod Flowing
+pub mod Seals

@@ -76,7 +76,7 @@ read_by p q n (asked.Call call view value) r h is reply g = read_of p q call vie
 read_by p q n asked.Task r h is reply g = absurd h.look.called
 
 -- ---- the exchange is done
-abbrev lane_at : Base → Asked → Raised → LaneState
+abbrev pub lane_at : Base → Asked → Raised → LaneState
 lane_at g a r = record { base = g; asked = a; mode = mode.Acting (act.Call (phase.Raise r)) }
 
 raise_making : (p : Pool) (n : ℕ) (g : Base) (a : Asked) (r : Raised) (now : List ℕ) → IsWhole p → IsLane n → IsLaneAt n (lane_at g a r) p → word_at p.words (gate_at n) ≡ r.gate
