@@ -7,3 +7,4 @@ pub mod Exchanges
 pub mod Raises
 pub mod Flowing
 pub mod Seals
+pub mod Claims
