@@ -12,3 +12,8 @@ pub mod GivenUp
 pub mod Begins
 pub mod Heeds
 pub mod Tasks
+pub mod Exchanges
+pub mod Raises
+pub mod Flowing
+pub mod Seals
+pub mod Claims

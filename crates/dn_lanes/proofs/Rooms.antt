@@ -51,7 +51,7 @@ words_are log (Get key) h = absurd h
 words_are log (Put key value) h = refl
 words_are log (Delete key) h = refl
 
-call_count : (call : Call) → IsWrite (kind_of call) → call_words call ≡ length_in_words (record_of call)
+pub call_count : (call : Call) → IsWrite (kind_of call) → call_words call ≡ length_in_words (record_of call)
 call_count (Get key) h = absurd h
 call_count (Put key value) h = refl
 call_count (Delete key) h = refl
