@@ -1,4 +1,4 @@
-use Rattle.std.proofs.Common.{ℕ, ◌<◌, ◌≡◌, ◌≢◌, true, List, [], Option, Some, None, refl, sym, ◌∙◌, ap, arith}
+use Rattle.std.proofs.Common.{ℕ, ◌<◌, ◌≡◌, ◌≢◌, true, Some, refl, arith}
 use Rattle.dn_record.specs.Grammar.{IsRecord}
 use Rattle.dn_record.specs.Record.{key_of as record_key}
 use Rattle.dn_hist.specs.Calls.{key_of}

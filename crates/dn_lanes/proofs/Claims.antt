@@ -1,4 +1,4 @@
-use Rattle.std.proofs.Common.{ℕ, ◌+◌, ◌-◌, ◌^◌, ◌%◌, ◌<◌, ◌≤◌, ◌≡◌, inl, inr, nat_lt, Bool, true, false, List, [], length, Option, Some, None, if◌then◌else◌, refl, sym, ◌∙◌, ap, subst, arith}
+use Rattle.std.proofs.Common.{ℕ, ◌+◌, ◌-◌, ◌^◌, ◌%◌, ◌<◌, ◌≡◌, inr, nat_lt, Bool, true, false, List, Some, if◌then◌else◌, refl, ◌∙◌, ap, arith}
 use Rattle.std.proofs.lemmas.Bool.Decides.{nat_tests}
 use Rattle.std.proofs.lemmas.List.{set-get_or}
 use Rattle.dn_word.specs.Regions.{segment_counter_at}
@@ -7,9 +7,7 @@ use Rattle.dn_act.specs.Action.{Performs}
 use Rattle.dn_act.specs.declared.actions.Action.TheVariants.{Load, Add}
 use Rattle.dn_act.proofs.Words.{word_at-set_other}
 use Rattle.dn_hist.specs.declared.calls.Call.{Call}
-use Rattle.dn_record.specs.declared.records.Record.{Record}
 use Rattle.dn_log.specs.Claim.{next_of as claim_next}
-use Rattle.dn_log.specs.Log.{Log}
 use Rattle.dn_log.specs.declared.claims.Claim.{Claim}
 use Rattle.dn_log.specs.declared.claims.Claim.TheVariants.{Reading, Taking}
 use Rattle.dn_log.specs.declared.claims.ClaimTurn.TheVariants as told
@@ -19,7 +17,7 @@ use Rattle.dn_plan.specs.declared.phases.RoomPhase.TheVariants as rooming
 use Rattle.dn_plan.specs.declared.results.Ending.TheVariants as ending
 use Rattle.dn_ask.specs.declared.asks.End.TheVariants as end
 use Rattle.dn_ask.specs.declared.asks.FindRoom.TheVariants as room
-use Rattle.dn_services.specs.Room.{IsClaimFor, turn_by, claimed_by}
+use Rattle.dn_services.specs.Room.{turn_by, claimed_by}
 use Rattle.dn_lane2.specs.Asked.{call_in}
 use Rattle.dn_lane2.specs.State.{LaneState}
 use Rattle.dn_lane2.specs.Taken.{by, roomed_by, taken_by}
@@ -27,7 +25,7 @@ use Rattle.dn_lane2.specs.declared.asked.Asked.{Asked}
 use Rattle.dn_lane2.specs.declared.base.Base.{Base}
 use Rattle.dn_lane2.specs.declared.modes.Mode.TheVariants as mode
 use Rattle.dn_beside.specs.Pool.{Pool, store_in, IsWhole}
-use Rattle.dn_reach.specs.OwnLog.{HoldsLog, IsLaneOf}
+use Rattle.dn_reach.specs.OwnLog.{IsLaneOf}
 use Rattle.dn_reach.specs.Steps.{after_claim, after_miss}
 use Rattle.dn_reach.proofs.Claims.{claim_step, claim_quiet, claim_log, miss_step, miss_quiet, miss_log}
 use Rattle.dn_reach.proofs.Rooms.{spare_reaches}
@@ -66,13 +64,15 @@ reading_by p g a r pool segments word now true e h is f =
     let count : word ≡ (store_in p).segment_count = f.answer ∙ h.represents.table.segment_count in
     let most : pool ≡ (store_in p).pool = c.claims.pool ∙ is.log.pool in
     goes_so p p n (claiming_lane g a r (Reading pool segments)) now g a (mode.Claiming (room.Call (rooming.Write r)) (Taking pool segments))
-    (still_done p n now g h (loaded p.words now segment_counter_at word f) is.log is.learns is.fetch) (still_quiet p)
-    (is.at.0, record {
-      raised = c.raised;
-      write = c.write;
-      needs = c.needs;
-      claims = record { pool = c.claims.pool; segments = c.claims.segments; count = c.claims.count; spare = c.claims.spare };
-    })
+    (still_done p n now g h (loaded p.words now segment_counter_at word f) is.log is.learns is.fetch) (still_quiet p) (
+      is.at.0,
+      record {
+        raised = c.raised;
+        write = c.write;
+        needs = c.needs;
+        claims = record { pool = c.claims.pool; segments = c.claims.segments; count = c.claims.count; spare = c.claims.spare };
+      },
+    )
     is.knows (inr (omega (arith, count, below word pool (store_in p).pool most e), refl, refl, refl))
 reading_by p g a r pool segments word now false e h is f =
     let n : ℕ = g.known.log.lane in

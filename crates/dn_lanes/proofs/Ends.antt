@@ -1,11 +1,11 @@
-use Rattle.std.proofs.Common.{ℕ, ◌+◌, ◌*◌, ◌<◌, ◌≤◌, ◌≡◌, ◌≢◌, ◌⊎◌, inl, inr, max, false, true, List, [], Option, Some, None, refl, sym, ◌∙◌, ap, subst, arith}
+use Rattle.std.proofs.Common.{ℕ, ◌+◌, ◌*◌, ◌<◌, ◌≤◌, ◌≡◌, ◌≢◌, inl, max, false, List, [], Option, Some, None, refl, sym, ◌∙◌, ap, subst, arith}
 use Rattle.dn_act.specs.Words.{word_at}
 use Rattle.dn_hist.specs.Calls.{key_of}
 use Rattle.dn_hist.specs.declared.calls.Call.{Call}
 use Rattle.dn_hist.specs.declared.calls.Call.TheVariants.{Get, Put, Delete}
 use Rattle.dn_hist.specs.declared.receipts.Receipt.{Receipt}
 use Rattle.dn_model.specs.Held.{Says, record_at}
-use Rattle.dn_model.specs.Regions.{gate_at, slot_of, directory, IsLane}
+use Rattle.dn_model.specs.Regions.{gate_at, slot_of, directory}
 use Rattle.dn_store.specs.State.{StoreState, with_at}
 use Rattle.dn_store.specs.Holding.{holds}
 use Rattle.dn_store.proofs.At.{at_same, at_other, at_by}
@@ -19,8 +19,6 @@ use Rattle.dn_owners.proofs.Tables.{kept}
 use Rattle.dn_ask.specs.declared.asks.End.{End as EndOf}
 use Rattle.dn_lane2.specs.Ends.{turn_by}
 use Rattle.dn_lane2.specs.State.{LaneState}
-use Rattle.dn_lane2.specs.Taken.{Taken}
-use Rattle.dn_lane2.specs.Turns.{left}
 use Rattle.dn_lane2.specs.declared.asked.Asked.{Asked}
 use Rattle.dn_lane2.specs.declared.asked.Asked.TheVariants as asked
 use Rattle.dn_lane2.specs.declared.base.Base.{Base}
@@ -37,7 +35,7 @@ use Rattle.dn_learnt.specs.Heeding.{IsLesson, IsTaught}
 use Rattle.dn_learnt.proofs.Lessons.{ends}
 use Rattle.dn_reach.specs.OwnLog.{HoldsLog}
 use Rattle.dn_reach.proofs.Lasts.{log_lasts}
-use Rattle.dn_receipts.specs.Joined.{IsElsewhere, IsRead, IsWritten, IsEffect, IsJoined, Joins}
+use Rattle.dn_receipts.specs.Joined.{IsWritten, IsEffect, IsJoined, Joins}
 use Rattle.dn_lanes.specs.Phases.{IsAt, Knows}
 use Rattle.dn_lanes.specs.Lane.{IsLaneAt}
 use Rattle.dn_lanes.specs.Stepped.{receipt_by, IsOfCall, claims_in, IsCounting, ComesTo}
@@ -136,7 +134,7 @@ promise_step : (p q : Pool) (n : ℕ) (r : Receipt) (look : Look) → IsWhole q 
 promise_step p q n r look h m =
     let e : Owners = happens q.owners (Promise n (key_of r.call) r.position.stamp) in
     let sound : IsSound e = kept q.owners (Promise n (key_of r.call) r.position.stamp) (ordered q.words q.chains q.owners.store h.represents) h.sound
-        (At_gate look m.looks m.slot m.clear m.most) in
+    (At_gate look m.looks m.slot m.clear m.most) in
     learning_step (by_lane n) q e refl (record { represents = h.represents; sound = sound; deeds = h.deeds; plain = h.plain })
     (λ k. more k) (λ m d. refl) (λ f. refl)
   where

@@ -3,7 +3,6 @@ use Rattle.std.proofs.lemmas.Bool.Decides.{nat_tests}
 use Rattle.dn_word.specs.Deed.{deed_of}
 use Rattle.dn_word.specs.Gate.{gate_of}
 use Rattle.dn_word.specs.Need.{greatest_of}
-use Rattle.dn_word.specs.declared.packed.deed.Deed.{Deed}
 use Rattle.dn_word.specs.declared.packed.gate.Gate.{Gate}
 use Rattle.dn_word.specs.declared.packed.place.Ref.{Ref}
 use Rattle.dn_word.specs.declared.positions.Need.{Need}

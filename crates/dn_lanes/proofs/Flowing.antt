@@ -1,4 +1,4 @@
-use Rattle.std.proofs.Common.{ℕ, ◌<◌, ◌≤◌, ◌≡◌, ◌≢◌, false, List, [], ◌∷◌, Contains, slice_get, Option, Some, None, refl, sym, ◌∙◌, ap, subst, arith}
+use Rattle.std.proofs.Common.{ℕ, ◌<◌, ◌≤◌, ◌≡◌, List, [], slice_get, Option, Some, None, refl, sym, ◌∙◌, ap, subst, arith}
 use Rattle.std.specs.List.{remove}
 use Rattle.std.specs.Option.{option_map}
 use Rattle.dn_act.specs.Words.{word_at}
@@ -20,24 +20,21 @@ use Rattle.dn_ask.specs.declared.asks.FindRoom.TheVariants as room
 use Rattle.dn_ask.specs.declared.asks.Seal.TheVariants as seal
 use Rattle.dn_services.specs.declared.seals.Seal.{Seal}
 use Rattle.dn_lane2.specs.Asked.{call_in}
-use Rattle.dn_lane2.specs.State.{LaneState}
-use Rattle.dn_lane2.specs.Turns.{flowed_of}
 use Rattle.dn_lane2.specs.declared.asked.Asked.{Asked}
 use Rattle.dn_lane2.specs.declared.base.Base.{Base}
 use Rattle.dn_lane2.specs.declared.modes.Mode.{Mode}
 use Rattle.dn_lane2.specs.declared.modes.Mode.TheVariants as mode
 use Rattle.dn_beside.specs.Pool.{Pool, store_in, IsWhole}
-use Rattle.dn_beside.specs.Step.{IsStepBy, IsQuiet, by_lane}
+use Rattle.dn_beside.specs.Step.{IsQuiet}
 use Rattle.dn_reach.specs.OwnLog.{IsLaneOf}
 use Rattle.dn_reach.specs.Placing.{staged_for}
-use Rattle.dn_reach.specs.Staging.{MayStage, MayStageAll, AreFlowing}
+use Rattle.dn_reach.specs.Staging.{MayStage, MayStageAll}
 use Rattle.dn_reach.specs.Steps.{after_flow}
 use Rattle.dn_reach.proofs.Within.{may_past}
 use Rattle.dn_reach.proofs.Stages.{staged_may, staged_go_apart}
 use Rattle.dn_reach.proofs.Flows.{flow_step, flow_quiet, flow_log, flow_flowing, get_has, removed_has}
 use Rattle.dn_receipts.specs.Sealing.{record_of}
 use Rattle.dn_lanes.specs.Calls.{key_in}
-use Rattle.dn_lanes.specs.Phases.{IsSealing, KnowsGate, Knows}
 use Rattle.dn_lanes.specs.Lane.{IsLaneAt}
 use Rattle.dn_lanes.proofs.Called.{is_call, call_record, call_key}
 use Rattle.dn_lanes.proofs.Ends.{HasDone}
@@ -85,7 +82,7 @@ flows p g a r s i x word now h lane is at f =
         knows = λ clear. (
           gate_kept p.words now n word x lane.below (may_past g.known.log x may) f ∙ (is.knows clear).0,
           flow_flowing p n g.known.log g.staging (staged_for g.known.log of) i x word now of_lane (staged_may g.known.log of is_record is.at.room)
-            (staged_go_apart g.known.log of (key_in a) is.log.fit is.log.apart is_record (call_key call) is.at.room) (is.knows clear).1 at f,
+              (staged_go_apart g.known.log of (key_in a) is.log.fit is.log.apart is_record (call_key call) is.at.room) (is.knows clear).1 at f,
         );
       };
       count = refl;

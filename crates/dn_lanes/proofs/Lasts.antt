@@ -1,15 +1,12 @@
-use Rattle.std.proofs.Common.{ℕ, ◌<◌, ◌≡◌, false, true, Bool, List, [], Option, Some, None, refl, sym, ◌∙◌, ap, subst, arith}
+use Rattle.std.proofs.Common.{ℕ, ◌≡◌, false, Bool, List, Option, refl, sym, ◌∙◌, subst}
 use Rattle.dn_hist.specs.Calls.{key_of}
 use Rattle.dn_hist.specs.declared.calls.Call.{Call}
 use Rattle.dn_hist.specs.declared.calls.Call.TheVariants.{Get, Put, Delete}
 use Rattle.dn_hist.specs.declared.calls.Reply.{Reply}
-use Rattle.dn_find.specs.declared.finds.Find.{Find}
-use Rattle.dn_log.specs.declared.claims.Claim.{Claim}
-use Rattle.dn_model.specs.Regions.{gate_at, slot_of, IsLane}
+use Rattle.dn_model.specs.Regions.{slot_of, IsLane}
 use Rattle.dn_plan.specs.declared.phases.ActPhase.{ActPhase}
 use Rattle.dn_plan.specs.declared.phases.ActPhase.TheVariants as phase
 use Rattle.dn_plan.specs.declared.phases.LocatePhase.TheVariants.{Owner}
-use Rattle.dn_plan.specs.declared.phases.Located.{Located}
 use Rattle.dn_plan.specs.declared.phases.Raised.{Raised}
 use Rattle.dn_plan.specs.declared.phases.RoomPhase.TheVariants as rooming
 use Rattle.dn_plan.specs.declared.phases.SealPhase.TheVariants as sealing
@@ -19,7 +16,6 @@ use Rattle.dn_ask.specs.declared.asks.Act.TheVariants as act
 use Rattle.dn_ask.specs.declared.asks.FindRoom.TheVariants as room
 use Rattle.dn_ask.specs.declared.asks.Locate.TheVariants as locate
 use Rattle.dn_ask.specs.declared.asks.Seal.TheVariants as seal
-use Rattle.dn_services.specs.declared.seals.Seal.{Seal}
 use Rattle.dn_lane2.specs.Asked.{brief_of, call_in}
 use Rattle.dn_lane2.specs.State.{LaneState}
 use Rattle.dn_lane2.specs.declared.asked.Asked.{Asked}
@@ -35,14 +31,12 @@ use Rattle.dn_learnt.specs.Heeding.{look_by}
 use Rattle.dn_learnt.proofs.Lessons.{learns_last}
 use Rattle.dn_reach.specs.OwnLog.{HoldsLog}
 use Rattle.dn_reach.specs.Placing.{staged_for}
-use Rattle.dn_reach.specs.Staging.{AreFlowing}
 use Rattle.dn_reach.proofs.Lasts.{log_lasts, flowing_lasts}
 use Rattle.dn_reach.proofs.Stages.{staged_may}
-use Rattle.dn_seek.specs.Seeking.{KnowsSeek}
 use Rattle.dn_seek.proofs.Seeks.{looked_lasts}
 use Rattle.dn_receipts.specs.Sealing.{record_of}
-use Rattle.dn_lanes.specs.Calls.{IsCalled, key_in, HasLook, HasRaised}
-use Rattle.dn_lanes.specs.Phases.{IsCalling, IsTending, IsActing, IsFinding, IsClaiming, IsSealing, IsAt, IsReply, IsReplyTo, KnowsReply, KnowsGate, KnowsCalling, KnowsActing, Knows}
+use Rattle.dn_lanes.specs.Calls.{key_in, HasLook}
+use Rattle.dn_lanes.specs.Phases.{IsCalling, IsActing, IsAt, IsReply, IsReplyTo, KnowsReply, KnowsGate, KnowsCalling, KnowsActing, Knows}
 use Rattle.dn_lanes.specs.Lane.{IsLaneAt}
 use Rattle.dn_lanes.proofs.Called.{is_call, positive, call_record}
 
@@ -101,7 +95,7 @@ knows_lasts n p q g a (mode.Claiming (room.Task place) claim) o clear log at h =
 knows_lasts n p q g a (mode.Sealing (seal.Call (sealing.Write r)) s) o clear log at h = (
   gate_lasts n p q r o clear h.0,
   flowing_lasts p q n g.known.log g.staging (staged_for g.known.log (record_of (call_in a))) o.leaves.own log
-    (staged_may g.known.log (record_of (call_in a)) (call_record (call_in a) (is_call a at.raised.look.called)) at.room) h.1,
+      (staged_may g.known.log (record_of (call_in a)) (call_record (call_in a) (is_call a at.raised.look.called)) at.room) h.1,
 )
 knows_lasts n p q g a (mode.Sealing (seal.Task place) s) o clear log at h = tt
 

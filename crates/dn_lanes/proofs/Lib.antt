@@ -17,3 +17,4 @@ pub mod Raises
 pub mod Flowing
 pub mod Seals
 pub mod Claims
+pub mod Steps

@@ -1,4 +1,4 @@
-use Rattle.std.proofs.Common.{ℕ, ◌+◌, ◌==◌, ◌<◌, ◌≤◌, ◌≡◌, inl, Bool, true, false, List, [], Option, Some, None, if◌then◌else◌, refl, sym, ◌∙◌, ap, subst, arith}
+use Rattle.std.proofs.Common.{ℕ, ◌==◌, ◌<◌, ◌≡◌, inl, Bool, true, false, List, Option, None, if◌then◌else◌, refl, sym, ◌∙◌, ap, arith}
 use Rattle.dn_word.specs.Gate.{gate_of}
 use Rattle.dn_word.specs.declared.packed.gate.Gate.{Gate}
 use Rattle.dn_act.specs.Words.{word_at}
@@ -9,12 +9,10 @@ use Rattle.dn_hist.specs.Calls.{key_of, found_of}
 use Rattle.dn_hist.specs.declared.calls.Call.{Call}
 use Rattle.dn_hist.specs.declared.calls.Call.TheVariants.{Get, Put, Delete}
 use Rattle.dn_hist.specs.declared.calls.Reply.{Reply}
-use Rattle.dn_hist.specs.declared.receipts.Receipt.{Receipt}
 use Rattle.dn_hist.specs.declared.receipts.SessionView.{SessionView}
 use Rattle.dn_model.specs.Held.{Found, Says}
 use Rattle.dn_model.specs.Regions.{gate_at, slot_of, IsLane}
 use Rattle.dn_store.specs.Holding.{holds}
-use Rattle.dn_owners.specs.Known.{Look}
 use Rattle.dn_plan.specs.Fit.{IsRead}
 use Rattle.dn_plan.specs.Plan.{sealing_word, goes, ends, barred}
 use Rattle.dn_plan.specs.declared.phases.ActPhase.TheVariants as phase
@@ -44,9 +42,8 @@ use Rattle.dn_lanes.specs.Phases.{IsReply, IsReplyTo, KnowsReply}
 use Rattle.dn_lanes.specs.Lane.{IsLaneAt}
 use Rattle.dn_lanes.specs.Stepped.{ComesTo}
 use Rattle.dn_lanes.proofs.Called.{positive}
-use Rattle.dn_lanes.proofs.Positions.{IsRaisedAt}
 use Rattle.dn_lanes.proofs.Ends.{HasDone, IsMaking, made_so}
-use Rattle.dn_lanes.proofs.Exchanges.{agree, differ, still_quiet, still_done, fenced_so, raised_at, exchanges, gate_clear, raised_past, receipt_for, made_told, made_of}
+use Rattle.dn_lanes.proofs.Exchanges.{agree, differ, still_quiet, still_done, fenced_so, exchanges, gate_clear, raised_past, receipt_for, made_told, made_of}
 
 -- A get raises the stamp of its lane's gate.
 

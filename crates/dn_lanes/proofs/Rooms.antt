@@ -86,7 +86,7 @@ pub seals_from : (p q : Pool) (n : ℕ) (l : LaneState) (now : List ℕ) (g : Ba
 seals_from p q n l now g a r h quiet w space count =
     let is : staged_for g.known.log (record_of (call_in a)) ≡ (staging_in g a r).staging = sym (words_are g.known.log (call_in a) w.write) in
     let may : MayStageAll g.known.log (staged_for g.known.log (record_of (call_in a))) =
-        staged_may g.known.log (record_of (call_in a)) (call_record (call_in a) (is_call a w.raised.look.called)) space in
+    staged_may g.known.log (record_of (call_in a)) (call_record (call_in a) (is_call a w.raised.look.called)) space in
     goes_so p q n l now (staging_in g a r) a (mode.Sealing (seal.Call (sealing.Write r)) (sealing_by a (record_in (seal.Call (sealing.Write r))))) (staged_done p q n now g a r h) quiet
     (record { raised = w.raised; write = w.write; is = refl; room = space; stages = subst (λ (xs : List Staged). MayStageAll g.known.log xs) is may })
     (λ clear. (w.knows clear, subst (λ (xs : List Staged). AreFlowing q.words xs (staged_for g.known.log (record_of (call_in a)))) is (all_staged q.words (staged_for g.known.log (record_of (call_in a))))))
@@ -104,13 +104,15 @@ claims_from p q n l now g a r false e h quiet w empty need count =
     let c : Claim = Reading g.known.log.pool (length g.known.log.segments) in
     let call : Call = call_in a in
     let none : g.known.log.spare ≡ None = no_spare g.known.log (record_of call) (key_in a) h.log.fit (call_record call (is_call a w.raised.look.called)) (call_key call) need in
-    goes_so p q n l now g a (mode.Claiming (room.Call (rooming.Write r)) c) h quiet
-    (empty, record {
-      raised = w.raised;
-      write = w.write;
-      needs = need;
-      claims = record { pool = refl; segments = refl; count = few_left (length g.known.log.segments) (few_segments g.known.log h.log.fit) e; spare = none };
-    })
+    goes_so p q n l now g a (mode.Claiming (room.Call (rooming.Write r)) c) h quiet (
+      empty,
+      record {
+        raised = w.raised;
+        write = w.write;
+        needs = need;
+        claims = record { pool = refl; segments = refl; count = few_left (length g.known.log.segments) (few_segments g.known.log h.log.fit) e; spare = none };
+      },
+    )
     (λ clear. w.knows clear) (inl (omega (arith, count)))
 
 -- ---- either

@@ -1,4 +1,4 @@
-use Rattle.std.proofs.Common.{ℕ, ◌+◌, ◌==◌, ◌<◌, ◌≤◌, ◌≡◌, ◌≢◌, ◌++◌, inl, Bool, true, false, List, [], ◌∷◌, Contains, Option, Some, None, if◌then◌else◌, refl, sym, ◌∙◌, ap, subst, arith}
+use Rattle.std.proofs.Common.{ℕ, ◌==◌, ◌<◌, ◌≡◌, inl, Bool, true, false, List, [], ◌∷◌, Contains, Some, if◌then◌else◌, refl, sym, ◌∙◌, ap, subst, arith}
 use Rattle.std.proofs.lemmas.Bool.{false≢true}
 use Rattle.std.proofs.lemmas.List.Elements.{Contains-append_right}
 use Rattle.dn_word.specs.declared.packed.gate.Gate.{Gate}
@@ -13,17 +13,15 @@ use Rattle.dn_hist.specs.Calls.{key_of}
 use Rattle.dn_hist.specs.declared.calls.Call.{Call}
 use Rattle.dn_hist.specs.declared.calls.Call.TheVariants.{Get, Put, Delete}
 use Rattle.dn_hist.specs.declared.receipts.SessionView.{SessionView}
-use Rattle.dn_log.specs.Log.{Log}
 use Rattle.dn_log.specs.declared.plans.Plan.{Plan}
 use Rattle.dn_log.specs.declared.staging.Staged.{Staged}
 use Rattle.dn_model.specs.declared.logs.Placed.{Placed}
-use Rattle.dn_model.specs.Held.{Says, entry_at, record_at}
+use Rattle.dn_model.specs.Held.{Says, record_at}
 use Rattle.dn_model.specs.Regions.{gate_at, slot_of, IsLane}
 use Rattle.dn_store.specs.Holding.{holds}
-use Rattle.dn_known.specs.State.{KnownState}
 use Rattle.dn_known.specs.Sealed.{sealed_by as known_sealed}
 use Rattle.dn_owners.specs.declared.plain.Pending.{Pending}
-use Rattle.dn_owners.specs.Known.{Look, Knows as OwnersKnow}
+use Rattle.dn_owners.specs.Known.{Knows as OwnersKnow}
 use Rattle.dn_owners.proofs.Logs.{ordered, head_has}
 use Rattle.dn_pending.specs.declared.entries.Entry.{Entry}
 use Rattle.dn_plan.specs.Fit.{IsWrite}
@@ -53,17 +51,16 @@ use Rattle.dn_learnt.proofs.Asks.{entry_has}
 use Rattle.dn_learnt.proofs.Lessons.{heeds_more}
 use Rattle.dn_reach.specs.Exchange.{IsExchanged}
 use Rattle.dn_reach.specs.OwnLog.{IsLaneOf}
-use Rattle.dn_reach.specs.Placing.{plan_for, staged_for, placed_by, pads_of}
+use Rattle.dn_reach.specs.Placing.{plan_for, placed_by, pads_of}
 use Rattle.dn_reach.specs.Sealing.{MaySeal}
-use Rattle.dn_reach.specs.Staging.{AreFlowing}
 use Rattle.dn_reach.specs.Steps.{after_seal}
 use Rattle.dn_reach.proofs.Gates.{missed}
 use Rattle.dn_reach.proofs.Seals.{seal_step, seal_log, seal_key, seal_others, seal_gate, seal_logs, seal_knows}
-use Rattle.dn_receipts.specs.Joined.{IsWritten, IsEffect}
+use Rattle.dn_receipts.specs.Joined.{IsEffect}
 use Rattle.dn_receipts.specs.Sealing.{record_of}
 use Rattle.dn_lanes.specs.Calls.{key_in, HasRaised}
 use Rattle.dn_lanes.specs.Lane.{IsLaneAt}
-use Rattle.dn_lanes.specs.Stepped.{IsCounting, ComesTo}
+use Rattle.dn_lanes.specs.Stepped.{ComesTo}
 use Rattle.dn_lanes.proofs.Called.{is_call, call_record, call_plain, call_key}
 use Rattle.dn_lanes.proofs.Ends.{HasDone, IsMaking, goes_so, made_so}
 use Rattle.dn_lanes.proofs.Rooms.{call_count}
@@ -133,7 +130,7 @@ seal_placed p g a r word now h =
     let whole : IsWhole q = (seal_step p n g.known.log (key_in a) of r.gate r.to.stamp now h.of h.may h.exchanged).whole in
     let new : Contains (placed_by plan of) here = Contains-append_right (pads_of plan.pad) (here ∷ []) here (head_has here []) in
     let all : Contains ((store_in q).logs n) here =
-        subst (λ (xs : List Placed). Contains xs here) (sym (seal_logs p n g.known.log of r.to.stamp now)) (Contains-append_right ((store_in p).logs n) (placed_by plan of) here new) in
+    subst (λ (xs : List Placed). Contains xs here) (sym (seal_logs p n g.known.log of r.to.stamp now)) (Contains-append_right ((store_in p).logs n) (placed_by plan of) here new) in
     entry_has 0 ((store_in q).logs n) here ((ordered q.words q.chains q.owners.store whole.represents).rise n) all
 
 seal_learns : (p : Pool) (g : Base) (a : Asked) (r : Raised) (word : ℕ) (now : List ℕ) → IsSealedBy p g a r word now → Learns (after p g a r now) g.known.log.lane (sealed_base g a).known

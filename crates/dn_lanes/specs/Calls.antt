@@ -1,6 +1,5 @@
-use Rattle.std.specs.Prelude.{◌≡◌, ◌≢◌, ◌<◌, ◌^◌, ℕ, Bool, false, List, Option, Some, None, if◌then◌else◌}
+use Rattle.std.specs.Prelude.{◌≡◌, ◌≢◌, ◌<◌, ◌^◌, ℕ, false, Option, Some}
 use Rattle.dn_word.specs.Gate.{gate_of}
-use Rattle.dn_word.specs.Deed.{deed_of}
 use Rattle.dn_word.specs.Need.{raised_of}
 use Rattle.dn_record.specs.Grammar.{IsValue}
 use Rattle.dn_hist.specs.Calls.{key_of}

@@ -1,4 +1,4 @@
-use Rattle.std.specs.Prelude.{◌≡◌, ◌<◌, ℕ, Bool, true, false, List, [], Option, Some, None}
+use Rattle.std.specs.Prelude.{◌≡◌, ◌<◌, ℕ, Bool, true, false, List, [], Option, None}
 use Rattle.dn_act.specs.Words.{word_at}
 use Rattle.dn_record.specs.Record.{value_of}
 use Rattle.dn_record.specs.declared.records.Record.{Record}
@@ -17,13 +17,9 @@ use Rattle.dn_log.specs.declared.claims.Claim.{Claim}
 use Rattle.dn_plan.specs.Fit.{IsRead, IsWrite}
 use Rattle.dn_plan.specs.declared.phases.ActPhase.{ActPhase}
 use Rattle.dn_plan.specs.declared.phases.ActPhase.TheVariants as phase
-use Rattle.dn_plan.specs.declared.phases.LocatePhase.{LocatePhase}
 use Rattle.dn_plan.specs.declared.phases.LocatePhase.TheVariants.{Owner}
-use Rattle.dn_plan.specs.declared.phases.Located.{Located}
 use Rattle.dn_plan.specs.declared.phases.Raised.{Raised}
-use Rattle.dn_plan.specs.declared.phases.RoomPhase.{RoomPhase}
 use Rattle.dn_plan.specs.declared.phases.RoomPhase.TheVariants as rooming
-use Rattle.dn_plan.specs.declared.phases.SealPhase.{SealPhase}
 use Rattle.dn_plan.specs.declared.phases.SealPhase.TheVariants as sealing
 use Rattle.dn_tend.specs.Tend.{asks_to_leave}
 use Rattle.dn_tend.specs.declared.phases.TendAct.{TendAct}
@@ -31,11 +27,9 @@ use Rattle.dn_tend.specs.declared.phases.TendAct.TheVariants as at
 use Rattle.dn_ask.specs.Ask.{wish_in, record_in}
 use Rattle.dn_ask.specs.declared.asks.Act.{Act}
 use Rattle.dn_ask.specs.declared.asks.Act.TheVariants as act
-use Rattle.dn_ask.specs.declared.asks.FindRoom.{FindRoom}
 use Rattle.dn_ask.specs.declared.asks.FindRoom.TheVariants as room
 use Rattle.dn_ask.specs.declared.asks.Locate.{Locate}
 use Rattle.dn_ask.specs.declared.asks.Locate.TheVariants as locate
-use Rattle.dn_ask.specs.declared.asks.Seal.{Seal as SealWait}
 use Rattle.dn_ask.specs.declared.asks.Seal.TheVariants as seal
 use Rattle.dn_services.specs.Room.{IsClaimFor}
 use Rattle.dn_services.specs.declared.seals.Seal.{Seal}

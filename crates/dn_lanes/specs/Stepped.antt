@@ -1,14 +1,12 @@
-use Rattle.std.specs.Prelude.{◌≡◌, ◌⊎◌, ◌<◌, ◌^◌, ◌-◌, ℕ, ◌+◌, ◌≤◌, List, Option, Some, None}
+use Rattle.std.specs.Prelude.{◌≡◌, ◌⊎◌, ◌<◌, ℕ, ◌+◌, ◌≤◌, List, Option, Some, None}
 use Rattle.dn_hist.specs.CallersOrder.{IsBefore}
 use Rattle.dn_hist.specs.declared.receipts.Receipt.{Receipt}
-use Rattle.dn_hist.specs.declared.receipts.SessionView.{SessionView}
-use Rattle.dn_ask.specs.declared.asks.FindRoom.{FindRoom}
 use Rattle.dn_log.specs.declared.claims.Claim.{Claim}
 use Rattle.dn_log.specs.declared.claims.Claim.TheVariants.{Reading, Taking}
 use Rattle.dn_lane2.specs.Asked.{call_in, view_in}
 use Rattle.dn_lane2.specs.State.{LaneState}
 use Rattle.dn_lane2.specs.Taken.{Taken, taken_by}
-use Rattle.dn_lane2.specs.Turns.{turned, left}
+use Rattle.dn_lane2.specs.Turns.{turned, left, flowed_of}
 use Rattle.dn_lane2.specs.declared.answers.Answer.{Answer}
 use Rattle.dn_lane2.specs.declared.answers.Answer.TheVariants as answer
 use Rattle.dn_lane2.specs.declared.answers.Turn.{Turn}
@@ -16,7 +14,7 @@ use Rattle.dn_lane2.specs.declared.answers.Turn.TheVariants.{More, Done, Tended}
 use Rattle.dn_lane2.specs.declared.modes.Mode.{Mode}
 use Rattle.dn_lane2.specs.declared.modes.Mode.TheVariants as mode
 use Rattle.dn_beside.specs.Pool.{Pool, store_in}
-use Rattle.dn_beside.specs.Step.{IsStepBy, by_lane}
+use Rattle.dn_beside.specs.Step.{IsStepBy, IsQuiet, by_lane}
 use Rattle.dn_receipts.specs.Joined.{Joins}
 use Rattle.dn_lanes.specs.Lane.{IsLaneAt}
 
@@ -73,3 +71,12 @@ pub record ComesTo (p : Pool) (n : ℕ) (l : LaneState) (now : List ℕ) (t : Ta
 
 abbrev pub LaneStepped : Pool → ℕ → LaneState → ℕ → List ℕ → Type 0
 LaneStepped p n l word now = ComesTo p n l now (taken_by l.base l.asked l.mode word)
+
+-- ---- a staged word has flowed, in its turn or out of it
+pub record FlowStepped (p : Pool) (n : ℕ) (l : LaneState) (index : ℕ) (now : List ℕ) : Type 0 where
+  pub q : Pool
+  pub words : q.words ≡ now
+  pub by : IsStepBy (by_lane n) p q
+  pub quiet : IsQuiet p q
+  pub lane : IsLaneAt n (flowed_of l index) q
+  pub count : (store_in q).segment_count ≡ (store_in p).segment_count

@@ -5,6 +5,7 @@ ghost use Rattle.dn_act.specs.Action.{Performs};
 ghost use Rattle.dn_act.specs.declared.actions.Action.{Action};
 ghost use Rattle.dn_model.specs.Regions.{IsLane};
 ghost use Rattle.dn_lane2.specs.State.{LaneState};
+ghost use Rattle.dn_log.specs.Staged.{flow_of};
 ghost use Rattle.dn_lane2.specs.Next.{next_of};
 ghost use Rattle.dn_beside.specs.Pool.{Pool, IsWhole, store_in};
 ghost use Rattle.dn_beside.specs.Grown.{Grows};
@@ -19,15 +20,27 @@ ghost use Rattle.dn_store.specs.Fresh.{IsFreshPool};
 ghost use Rattle.dn_owners.specs.Fresh.{fresh_owners};
 ghost use Rattle.dn_lanes.specs.Calls.{IsCall};
 ghost use Rattle.dn_lanes.specs.Lane.{IsLaneAt};
-ghost use Rattle.dn_lanes.specs.Stepped.{ComesTo};
+ghost use Rattle.dn_lanes.specs.Stepped.{ComesTo, LaneStepped, FlowStepped};
 ghost use Rattle.dn_lanes.specs.Unmade.{IsUnmade};
 ghost use Rattle.dn_lanes.specs.Begun.{IsOwnTask, IsMade, IsStoppedAt};
-ghost use Rattle.dn_lanes.specs.Stepped.{LaneStepped};
 
 /// What a lane knows at any phase lasts under the steps of all others.
 pub fn lasting()
     ensures { (n : ℕ) (l : LaneState) (p q : Pool) → IsWhole p → IsWhole q → IsLane n → Grows p q
         → LeavesLane n p q → IsLaneAt n l p → IsLaneAt n l q }
+{}
+
+/// Each action of a lane, at whatever phase of a call or of a task that concerns no shared key: it is to all others a step
+/// that leaves them what they know, and the lane knows its next phase. A receipt joins where the call is made and nowhere
+/// else, and nothing that is held changes without one. So does a staged word that flows out of turn, also behind a fence.
+pub fn acting()
+    ensures step { (p : Pool) (n : ℕ) (l : LaneState) (action : Action) (word : ℕ) (now : List ℕ)
+        → IsWhole p → IsLane n → (store_in p).segment_count < 2 ^ 64 - 1 → IsLaneAt n l p
+        → next_of l ≡ Some action → Performs action word p.words now → LaneStepped p n l word now }
+    ensures flow { (p : Pool) (n : ℕ) (l : LaneState) (index : ℕ) (action : Action) (word : ℕ)
+        (now : List ℕ) → IsWhole p → IsLane n → IsLaneAt n l p
+        → flow_of l.base.staging index ≡ Some action → Performs action word p.words now
+        → FlowStepped p n l index now }
 {}
 
 /// A lane with nothing under way begins a call, or a task that concerns no shared key.
