@@ -1,3 +1,5 @@
 pub mod Others
 pub mod Rest
 pub mod Mergers
+pub mod Orders
+pub mod Sessions

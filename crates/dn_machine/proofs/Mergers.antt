@@ -28,7 +28,7 @@ abbrev pub merged : Machine → List ℕ → ℕ → Merging → Machine
 merged m words n x = with_merger (record m { words = words }) n (Some x)
 
 -- merger n of it
-pub record IsMerger (m : Machine) (n : ℕ) (x : Merging) : Type 0 where
+pub record HasMerger (m : Machine) (n : ℕ) (x : Merging) : Type 0 where
   pub is : m.mergers n ≡ Some x
   pub lane : IsLane n
 
@@ -36,7 +36,7 @@ pub record IsMerger (m : Machine) (n : ℕ) (x : Merging) : Type 0 where
 made_still : (m : Machine) (n : ℕ) (x y : Merging) → m.mergers n ≡ Some x → (k : ℕ) → (z : Merging) × (m.mergers k ≡ Some z) → (z : Merging) × (with_at m.mergers n (Some y) k ≡ Some z)
 made_still m n x y is k made = at_by (λ (v : Option Merging). (z : Merging) × (v ≡ Some z)) m.mergers n (Some y) k (λ e. (y, refl)) (λ d. made)
 
-actors_by : (m : Machine) (words : List ℕ) (n : ℕ) (x y : Merging) → IsMerger m n x → AreActors m → AreActors (merged m words n y)
+actors_by : (m : Machine) (words : List ℕ) (n : ℕ) (x y : Merging) → HasMerger m n x → AreActors m → AreActors (merged m words n y)
 actors_by m words n x y by h = record {
   made = λ k l e. made_still m n x y by.is k (h.made k l e);
   numbers = λ k z. at_by (λ (v : Option Merging). v ≡ Some z → IsLane k) m.mergers n (Some y) k
@@ -66,7 +66,7 @@ know_by p q m words n y h s r at = record {
 }
 
 -- ---- a step of merger n, which is at y then
-merger_kept : (p : Pool) (m : Machine) (words : List ℕ) (n : ℕ) (x y : Merging) → IsMachineAt p m → IsMerger m n x → (s : IsMergerStep n x p words) → IsMergerAt n y s.q
+merger_kept : (p : Pool) (m : Machine) (words : List ℕ) (n : ℕ) (x y : Merging) → IsMachineAt p m → HasMerger m n x → (s : IsMergerStep n x p words) → IsMergerAt n y s.q
     → (store_in s.q).bucket_count + asking (with_at m.mergers n (Some y)) ≤ 4159 → IsKept p (merged m words n y)
 merger_kept p m words n x y h by s at few =
     let r : Rest s.q m = rest (by_merger n) p s.q m h s.step s.quiet refl in record {
@@ -117,8 +117,8 @@ gives_up p m n false h (Some x) is = begins_anew p m n x m.words h is (was_not_d
 pub merger_acts : (p : Pool) (m : Machine) (n : ℕ) → IsMachineAt p m → IsKept p (happens m (Acts (Merger n)))
 merger_acts p m n h = does p m n h (m.mergers n) refl
 
-pub merger_fails_kept : (p : Pool) (m : Machine) (n : ℕ) (done : Bool) → IsMachineAt p m → IsKept p (happens m (Fails (Merger n) done))
-merger_fails_kept p m n done h = gives_up p m n done h (m.mergers n) refl
+pub merger_gives_up : (p : Pool) (m : Machine) (n : ℕ) (done : Bool) → IsMachineAt p m → IsKept p (happens m (Fails (Merger n) done))
+merger_gives_up p m n done h = gives_up p m n done h (m.mergers n) refl
 
 -- to begin anew is to fail without an action
 pub merger_renews : (p : Pool) (m : Machine) (n : ℕ) → IsMachineAt p m → IsKept p (happens m (Renews n))
