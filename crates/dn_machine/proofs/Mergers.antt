@@ -1,10 +1,10 @@
-use Rattle.std.proofs.Common.{ℕ, ◌+◌, ◌<◌, ◌≤◌, ◌≡◌, ◌≢◌, Bool, true, false, List, Option, Some, None, refl, sym, subst, arith}
+use Rattle.std.proofs.Common.{ℕ, ◌+◌, ◌≤◌, ◌≡◌, Bool, true, false, List, Option, Some, None, refl, sym, subst, arith}
 use Rattle.std.proofs.lemmas.Option.{same_Some, none-some}
 use Rattle.dn_act.specs.Action.{words_after, MayPerform}
 use Rattle.dn_act.specs.declared.actions.Action.{Action}
 use Rattle.dn_model.specs.Regions.{IsLane}
 use Rattle.dn_store.specs.State.{with_at}
-use Rattle.dn_store.proofs.At.{at_by, at_same}
+use Rattle.dn_store.proofs.At.{at_by}
 use Rattle.dn_merge.specs.Merge.{Merging, started, merge_next, merge_after}
 use Rattle.dn_beside.specs.Pool.{Pool, store_in}
 use Rattle.dn_beside.specs.Step.{IsStepBy, by_merger}
@@ -33,12 +33,12 @@ pub record HasMerger (m : Machine) (n : ℕ) (x : Merging) : Type 0 where
   pub lane : IsLane n
 
 -- ---- who acts
-made_still : (m : Machine) (n : ℕ) (x y : Merging) → m.mergers n ≡ Some x → (k : ℕ) → (z : Merging) × (m.mergers k ≡ Some z) → (z : Merging) × (with_at m.mergers n (Some y) k ≡ Some z)
-made_still m n x y is k made = at_by (λ (v : Option Merging). (z : Merging) × (v ≡ Some z)) m.mergers n (Some y) k (λ e. (y, refl)) (λ d. made)
+made_still : (m : Machine) (n : ℕ) (y : Merging) (k : ℕ) → (z : Merging) × (m.mergers k ≡ Some z) → (z : Merging) × (with_at m.mergers n (Some y) k ≡ Some z)
+made_still m n y k made = at_by (λ (v : Option Merging). (z : Merging) × (v ≡ Some z)) m.mergers n (Some y) k (λ e. (y, refl)) (λ d. made)
 
 actors_by : (m : Machine) (words : List ℕ) (n : ℕ) (x y : Merging) → HasMerger m n x → AreActors m → AreActors (merged m words n y)
 actors_by m words n x y by h = record {
-  made = λ k l e. made_still m n x y by.is k (h.made k l e);
+  made = λ k l e. made_still m n y k (h.made k l e);
   numbers = λ k z. at_by (λ (v : Option Merging). v ≡ Some z → IsLane k) m.mergers n (Some y) k
       (λ e f. let P : ℕ → Type 0 = λ i. IsLane i in subst P (sym e) by.lane)
       (λ d f. h.numbers k z f);

@@ -1,4 +1,4 @@
-use Rattle.std.proofs.Common.{ℕ, ◌≡◌, Bool, true, false, List, Option, Some, None, refl, sym, subst, arith, if◌then◌else◌}
+use Rattle.std.proofs.Common.{ℕ, ◌≡◌, Bool, true, false, List, Option, Some, None, refl, subst, arith, if◌then◌else◌}
 use Rattle.std.proofs.lemmas.Option.{same_Some, none-some}
 use Rattle.dn_act.specs.Action.{words_after, MayPerform}
 use Rattle.dn_act.specs.declared.actions.Action.{Action}
@@ -8,12 +8,11 @@ use Rattle.dn_monitor.specs.declared.orders.Order.{Order}
 use Rattle.dn_beside.specs.Pool.{Pool}
 use Rattle.dn_beside.specs.Step.{IsStepBy, IsQuiet, by_monitor}
 use Rattle.dn_orders.specs.Knowing.{KnowsOrder}
-use Rattle.dn_orders.specs.Step.{IsOrderStep}
 use Rattle.dn_orders.proofs.Lasting.{begins}
 use Rattle.dn_orders.proofs.Steps.{step, failed}
 use Rattle.dn_beside.proofs.Still.{learning_step, quiet_still}
 use Rattle.dn_machine.specs.State.{Machine}
-use Rattle.dn_machine.specs.Events.{Monitor, Acts, Fails, Orders, Drops, found, acted_if, ordered, monitor_does, monitor_fails, of_monitor, happens}
+use Rattle.dn_machine.specs.Events.{Monitor, Acts, Fails, Orders, Drops, found, ordered, monitor_does, monitor_fails, of_monitor, happens}
 use Rattle.dn_machine.specs.Given.{MayOrder}
 use Rattle.dn_machine.specs.Sound.{IsMachineAt}
 use Rattle.dn_machine.specs.Kept.{IsKept}

@@ -1,11 +1,10 @@
-use Rattle.std.proofs.Common.{ℕ, ◌+◌, ◌<◌, ◌≤◌, ◌≡◌, ◌≢◌, inl, inr, List, Option, Some, None, refl, sym, ◌∙◌, ap, arith}
+use Rattle.std.proofs.Common.{ℕ, ◌+◌, ◌≤◌, ◌≡◌, ◌≢◌, inl, inr, Some, None, refl, sym, ◌∙◌, ap, arith}
 use Rattle.dn_act.specs.Action.{at_of, words_after, Performs, MayPerform}
 use Rattle.dn_act.specs.Words.{word_at}
 use Rattle.dn_act.specs.declared.actions.Action.{Action}
 use Rattle.dn_model.specs.Regions.{IsLane}
 use Rattle.dn_lane2.specs.State.{LaneState}
 use Rattle.dn_beside.specs.Pool.{Pool, store_in}
-use Rattle.dn_beside.specs.Lanes.{LeavesLane}
 use Rattle.dn_beside.specs.Step.{Acting, IsStepBy, IsQuiet}
 use Rattle.dn_lanes.specs.Lane.{IsLaneAt}
 use Rattle.dn_lanes.specs.Unmade.{IsUnmade}
@@ -14,9 +13,10 @@ use Rattle.dn_receipts.proofs.Joining.{none_joins}
 use Rattle.dn_callers.specs.Callers.{receipts_of}
 use Rattle.dn_machine.specs.State.{Machine}
 use Rattle.dn_machine.specs.Events.{found}
-use Rattle.dn_machine.specs.Sound.{claiming, IsMachineAt}
+use Rattle.dn_machine.specs.Sound.{claiming, IsMachineAt, IsSound}
 use Rattle.dn_machine.specs.Kept.{IsKept}
 use Rattle.dn_machine.proofs.Others.{lanes_last}
+use Rattle.dn_machine.proofs.Unmade.{unmade_lasts}
 
 -- What a step that is no lane's leaves of a machine.
 
@@ -37,15 +37,7 @@ was_not_done p m action e = inl (sym e)
 pub stays : (p : Pool) (m : Machine) → IsMachineAt p m → IsKept p m
 stays p m h = record { q = p; at = h; pool = refl }
 
--- lanes that weren't made
-pub unmade_lasts : (n : ℕ) (p q : Pool) → LeavesLane n p q → IsUnmade p n → IsUnmade q n
-unmade_lasts n p q l h = record {
-  directory = λ i lt. l.own.directory i lt ∙ h.directory i lt;
-  len = l.own.len ∙ h.len;
-  log = l.log ∙ h.log;
-}
-
--- nobody has a lane's number where no lane acts
+-- where no lane acts, each lane is another than the one that does
 no_lane : (a : Acting) (n : ℕ) → a.lane ≡ 0 → IsLane n → n ≢ a.lane
 no_lane a n z l e = absurd (omega (arith, z, e, l.positive))
 
@@ -67,3 +59,7 @@ rest a p q m h s quiet z = record {
   segments = omega (arith, h.room.segments, s.grows.pool, s.segment_count z);
   receipts = none_joins p q (receipts_of m.callers.receipts) h.receipts s.grows quiet;
 }
+
+-- ---- what is sound goes on
+pub sound_after : (segments : ℕ) (m now : Machine) (h : IsSound segments m) → IsKept h.p now → IsSound segments now
+sound_after segments m now h k = record { p = k.q; at = k.at; pool = k.pool ∙ h.pool }

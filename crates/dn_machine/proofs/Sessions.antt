@@ -138,6 +138,6 @@ pub session_closes : (p : Pool) (m : Machine) (s : ℕ) → IsMachineAt p m → 
 session_closes p m s h alone =
     changed p m (closed_at m.callers s) h (closed_sessions m.callers s h.callers) h.receipts
     (λ n l is.
-        let made = h.actors.made n l is in
-        let lane : IsLane n = h.actors.numbers n made.0 made.1 in
-        call_unclosed m.callers s l.asked (alone n l lane is) (h.actors.calls n l is))
+    let made = h.actors.made n l is in
+    let lane : IsLane n = h.actors.numbers n made.0 made.1 in
+    call_unclosed m.callers s l.asked (alone n l lane is) (h.actors.calls n l is))
