@@ -33,14 +33,12 @@ use Rattle.dn_machine.specs.Given.{IsOfSession}
 use Rattle.dn_machine.specs.Kept.{IsKept}
 use Rattle.dn_machine.specs.Sound.{claims, claiming, IsCallOf, HaveRoom, IsMachineAt}
 use Rattle.dn_machine.proofs.Calls.{taken_same}
+use Rattle.dn_machine.proofs.Rest.{performs, stays}
 use Rattle.dn_machine.proofs.Lanes.{IsLaneChange, lane_changes, keeps_alone, claims_change, IsAction, acted_so}
 
 -- The next action of a lane, and a staged word that flows out of turn.
 
--- ---- the word that the action finds
-pub performs : (p : Pool) (m : Machine) (action : Action) → p.words ≡ m.words → Performs action (found m action) p.words (words_after action m.words)
-performs p m action e = record { answer = ap (λ ws. word_at ws (at_of action)) (sym e); change = ap (words_after action) (sym e) }
-
+-- ---- what it comes to
 pub few_segments : (p : Pool) (m : Machine) → HaveRoom p m → (store_in p).segment_count < 2 ^ 64 - 1
 few_segments p m h = omega (arith, h.segments, h.pool)
 
@@ -53,11 +51,8 @@ lane_comes p m n l action h is e =
     lane_steps p n l action (found m action) (words_after action m.words) h.whole (lane_of p m n l h is) (few_segments p m h.room) (h.know.lanes n l is) e (performs p m action h.words)
 
 -- ---- its next action
-still : (p : Pool) (m : Machine) → IsMachineAt p m → IsKept p m
-still p m h = record { q = p; at = h; pool = refl }
-
 by_next : (p : Pool) (m : Machine) (n : ℕ) (l : LaneState) (o : Option Action) → IsMachineAt p m → m.lanes n ≡ Some l → next_of l ≡ o → IsKept p (lane_does m n l o)
-by_next p m n l None h is e = still p m h
+by_next p m n l None h is e = stays p m h
 by_next p m n l (Some action) h is e =
     let c : LaneStepped p n l (found m action) (words_after action m.words) = lane_comes p m n l action h is e in
     let t : Taken = taken_by l.base l.asked l.mode (found m action) in
@@ -65,7 +60,7 @@ by_next p m n l (Some action) h is e =
     record { q = c.q; at = acted_so p m n l (words_after action m.words) t a; pool = c.by.grows.pool }
 
 by_lane_acts : (p : Pool) (m : Machine) (n : ℕ) (o : Option LaneState) → IsMachineAt p m → m.lanes n ≡ o → IsKept p (of_lane m o (λ l. lane_does m n l (next_of l)))
-by_lane_acts p m n None h is = still p m h
+by_lane_acts p m n None h is = stays p m h
 by_lane_acts p m n (Some l) h is = by_next p m n l (next_of l) h is refl
 
 pub lane_acts_kept : (p : Pool) (m : Machine) (n : ℕ) → IsMachineAt p m → IsKept p (happens m (Acts (Lane n)))
@@ -91,14 +86,14 @@ flow_change p m n l index now h is s =
     }
 
 by_flow : (p : Pool) (m : Machine) (n : ℕ) (l : LaneState) (index : ℕ) (o : Option Action) → IsMachineAt p m → m.lanes n ≡ Some l → flow_of l.base.staging index ≡ o → IsKept p (flowing_lane m n l index o)
-by_flow p m n l index None h is e = still p m h
+by_flow p m n l index None h is e = stays p m h
 by_flow p m n l index (Some action) h is e =
     let now : List ℕ = words_after action m.words in
     let s : FlowStepped p n l index now = lane_flows p n l index action (found m action) now h.whole (lane_of p m n l h is) (h.know.lanes n l is) e (performs p m action h.words) in
     record { q = s.q; at = lane_changes p s.q m now n l (Some (flowed_of l index)) m.callers s.words (flow_change p m n l index now h is s); pool = s.by.grows.pool }
 
 by_lane_flows : (p : Pool) (m : Machine) (n index : ℕ) (o : Option LaneState) → IsMachineAt p m → m.lanes n ≡ o → IsKept p (of_lane m o (λ l. flowing_lane m n l index (flow_of l.base.staging index)))
-by_lane_flows p m n index None h is = still p m h
+by_lane_flows p m n index None h is = stays p m h
 by_lane_flows p m n index (Some l) h is = by_flow p m n l index (flow_of l.base.staging index) h is refl
 
 pub lane_flows_kept : (p : Pool) (m : Machine) (n index : ℕ) → IsMachineAt p m → IsKept p (happens m (Flows n index))

@@ -1,3 +1,10 @@
 pub mod Others
 pub mod Calls
 pub mod Lanes
+pub mod Rest
+pub mod Mergers
+pub mod Orders
+pub mod Sessions
+pub mod Opening
+pub mod LaneActs
+pub mod LaneFails

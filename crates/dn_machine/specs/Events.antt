@@ -1,4 +1,4 @@
-use Rattle.std.specs.Prelude.{ℕ, ◌&&◌, Bool, true, false, List, Option, Some, None, if◌then◌else◌}
+use Rattle.std.specs.Prelude.{ℕ, Bool, true, false, List, Option, Some, None, if◌then◌else◌}
 use Rattle.dn_word.specs.Regions.{deed_at}
 use Rattle.dn_word.specs.declared.positions.Position.{Position}
 use Rattle.dn_act.specs.Action.{at_of, words_after}
@@ -9,12 +9,12 @@ use Rattle.dn_hist.specs.declared.calls.Call.{Call}
 use Rattle.dn_hist.specs.declared.receipts.Receipt.{Receipt}
 use Rattle.dn_hist.specs.declared.receipts.SessionView.{SessionView}
 use Rattle.dn_log.specs.Staged.{flow_of}
+use Rattle.dn_model.specs.Register.{may_write}
 use Rattle.dn_store.specs.State.{with_at}
 use Rattle.dn_tend.specs.declared.tasks.Task.{Task}
 use Rattle.dn_merge.specs.Merge.{Merging, started, merge_next, merge_after}
 use Rattle.dn_monitor.specs.Monitor.{Monitoring, begun as begun_order, monitor_next, monitor_turn, monitor_after, is_last}
 use Rattle.dn_monitor.specs.declared.orders.Order.{Order}
-use Rattle.dn_lane2.specs.Left.{is_sealing}
 use Rattle.dn_lane2.specs.Next.{next_of}
 use Rattle.dn_lane2.specs.State.{LaneState, fresh, begun, begun_task}
 use Rattle.dn_lane2.specs.Turns.{turn_of, left_of, flowed_of}
@@ -83,8 +83,13 @@ abbrev pub unanswered : Callers → Asked → Option Receipt → Callers
 unanswered c a None = closed_for c a
 unanswered c a (Some r) = unanswered_by c r
 
+abbrev pub written : Option Receipt → Option Receipt
+written None = None
+written (Some r) = if may_write r.call then Some r else None
+
 abbrev pub receipt_if : Bool → LaneState → ℕ → Option Receipt
-receipt_if done l word = if done && is_sealing l.mode then receipt_by (turn_of l word) else None
+receipt_if true l word = written (receipt_by (turn_of l word))
+receipt_if false l word = None
 
 -- ---- lanes
 abbrev pub with_lane : Machine → ℕ → Option LaneState → Machine

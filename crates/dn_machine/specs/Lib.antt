@@ -2,3 +2,4 @@ pub mod State
 pub mod Events
 pub mod Given
 pub mod Sound
+pub mod Kept

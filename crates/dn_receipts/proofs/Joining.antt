@@ -121,3 +121,20 @@ joins_by p q rs r (Delete key) e effect h g j n =
 
 pub one_joins : (p q : Pool) (rs : List Receipt) (r : Receipt) → AreReceipts p rs → Grows p q → IsJoined p q r → key_of r.call ≢ 0 → AreReceipts q (rs ++ r ∷ [])
 one_joins p q rs r h g j n = joins_by p q rs r r.call refl j.effect h g j n
+
+-- ---- a read may be left out: its stamp stays promised
+pub read_passes : (p q : Pool) (rs : List Receipt) (r : Receipt) (key : ℕ) → r.call ≡ Get key → AreReceipts p rs → Grows p q → IsJoined p q r → key_of r.call ≢ 0 → AreReceipts q rs
+read_passes p q rs r key e h g j nonzero =
+    let own : key_of r.call ≡ key = ap key_of e in
+    let read : IsRead p q r key = subst (IsEffect p q r) e j.effect in
+    let pos : 0 < key = omega (arith, nonzero, own) in
+    record {
+      held = h.held;
+      there = λ k some. elim (cases_eq k key) [
+        | inl s ↦ (let P : ℕ → Type 0 = λ x. holds (store_in q) x ≡ Says (h.held x) in subst P (sym s) (read.held (h.held key) (h.there key pos)))
+        | inr s ↦ j.elsewhere.held k (h.held k) some (λ x. s (x ∙ own)) (h.there k some)
+      ];
+      register = register_same h.held h.held p.owners.promised q.owners.promised rs h.register (λ k. refl) (rises p q r j);
+      keyed = h.keyed;
+      recorded = λ x c. recorded_lasts p q x g (h.recorded x c);
+    }

@@ -27,12 +27,15 @@ pub fn fresh()
         → AreReceipts (fresh_pool words pool lanes owners) [] }
 {}
 
-/// A step at which none joins keeps the receipts, and one at which a receipt of a key joins has it behind them.
+/// A step at which none joins keeps the receipts, and one at which a receipt of a key joins has it behind them. A get that
+/// nobody is answered may be left out.
 pub fn joins()
     ensures none { (p q : Pool) (rs : List Made) → AreReceipts p rs → Grows p q → Joins p q None
         → AreReceipts q rs }
     ensures one { (p q : Pool) (rs : List Made) (r : Made) → AreReceipts p rs → Grows p q
         → Joins p q (Some r) → key_of r.call ≢ 0 → AreReceipts q (rs ++ r ∷ []) }
+    ensures left_out { (p q : Pool) (rs : List Made) (r : Made) (k : ℕ) → AreReceipts p rs
+        → Grows p q → Joins p q (Some r) → r.call ≡ Get k → k ≢ 0 → AreReceipts q rs }
 {}
 
 /// The record of a put or delete stays sealed at its receipt's place, and the words there spell it.
