@@ -1,3 +1,5 @@
 pub mod Others
 pub mod Calls
 pub mod Lanes
+pub mod Begins
+pub mod Stops

@@ -2,3 +2,5 @@ pub mod State
 pub mod Events
 pub mod Given
 pub mod Sound
+pub mod Kept
+pub mod Histories
