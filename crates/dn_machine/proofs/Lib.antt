@@ -3,3 +3,8 @@ pub mod Calls
 pub mod Lanes
 pub mod Begins
 pub mod Stops
+pub mod Made
+pub mod Opening
+pub mod Distinct
+pub mod CallersOrder
+pub mod Histories
