@@ -8,3 +8,10 @@ pub mod Sessions
 pub mod Opening
 pub mod LaneActs
 pub mod LaneFails
+pub mod Begins
+pub mod Made
+pub mod Distinct
+pub mod CallersOrder
+pub mod Histories
+pub mod Kept
+pub mod Attempts

@@ -3,3 +3,5 @@ pub mod Events
 pub mod Given
 pub mod Sound
 pub mod Kept
+pub mod Histories
+pub mod Runs

@@ -1,16 +1,26 @@
 //! What is so of a machine, as functions without work: what each says is its contract.
 
-ghost use Rattle.std.specs.Prelude.{◌≡◌, ◌<◌, ◌≤◌, ℕ, Bool, List, false};
-ghost use Rattle.dn_word.specs.declared.positions.Position.{Position};
+ghost use Rattle.std.specs.Prelude.{◌≡◌, ◌≤◌, ℕ, true, false, List, Contains, Some, None};
+ghost use Rattle.dn_act.specs.Action.{words_after};
+ghost use Rattle.dn_act.specs.declared.actions.Action.{Action};
+ghost use Rattle.dn_hist.specs.Calls.{Bytes, IsWrite, reply_of, map_after};
+ghost use Rattle.dn_hist.specs.Replay.{IsLegal, map_left};
+ghost use Rattle.dn_hist.specs.declared.receipts.Receipt.{Receipt as Made};
+ghost use Rattle.dn_model.specs.PoolMap.{HoldsMap};
 ghost use Rattle.dn_store.specs.Fresh.{IsFreshPool};
-ghost use Rattle.dn_monitor.specs.declared.orders.Order.{Order};
-ghost use Rattle.dn_beside.specs.Pool.{Pool};
+ghost use Rattle.dn_route.specs.CallersOrder.{KeepsCallersOrder};
+ghost use Rattle.dn_lane2.specs.Next.{next_of};
+ghost use Rattle.dn_lane2.specs.State.{LaneState};
+ghost use Rattle.dn_lane2.specs.Turns.{turn_of};
+ghost use Rattle.dn_lanes.specs.Stepped.{receipt_by};
+ghost use Rattle.dn_callers.specs.Callers.{Standing, receipts_of};
 ghost use Rattle.dn_callers.specs.Sessions.{IsSession};
 ghost use Rattle.dn_machine.specs.State.{Machine, resting};
-ghost use Rattle.dn_machine.specs.Events.{Merger, Monitor, Session, Acts, Fails, Orders, Loads, Numbers, Tells, Hints, Closes, Renews, Drops, happens};
-ghost use Rattle.dn_machine.specs.Given.{HasNoCall, MayOrder};
-ghost use Rattle.dn_machine.specs.Sound.{IsMachineAt, IsSound};
-ghost use Rattle.dn_machine.specs.Kept.{IsKept};
+ghost use Rattle.dn_machine.specs.Events.{Event, found, happens};
+ghost use Rattle.dn_machine.specs.Given.{IsGiven};
+ghost use Rattle.dn_machine.specs.Sound.{IsSound};
+ghost use Rattle.dn_machine.specs.Runs.{after, IsRun};
+ghost use Rattle.dn_machine.specs.Histories.{IsHistory, IsSealedIn};
 
 /// The words that an opening leaves for 1 to 63 lanes, in a pool of at most 8,192 segments, are sound before anybody acts.
 pub fn opening()
@@ -18,43 +28,68 @@ pub fn opening()
         → IsFreshPool words pool lanes owners → pool ≤ 8192 → IsSound pool (resting words) }
 {}
 
-/// A merger acts, fails, done or not done, or begins anew: the machine stays sound, beside all lanes, other mergers and
-/// the monitor.
-pub fn mergers()
-    ensures acts { (p : Pool) (m : Machine) (n : ℕ) → IsMachineAt p m
-        → IsKept p (happens m (Acts (Merger n))) }
-    ensures fails { (p : Pool) (m : Machine) (n : ℕ) (done : Bool) → IsMachineAt p m
-        → IsKept p (happens m (Fails (Merger n) done)) }
-    ensures renews { (p : Pool) (m : Machine) (n : ℕ) → IsMachineAt p m
-        → IsKept p (happens m (Renews n)) }
+/// Every event of every actor, in any order, keeps a machine sound: each action of a lane, a merger, the monitor or a
+/// session, whatever others have done between two of them; an action that failed, done or not done; each thing given; a
+/// stop. Actors are asked for nothing. So a run of events is sound from its beginning to its end.
+pub fn events()
+    ensures sound { (segments : ℕ) (m : Machine) (e : Event) → IsSound segments m
+        → IsGiven segments m e → IsSound segments (happens m e) }
+    ensures runs { (segments : ℕ) (m : Machine) (es : List Event) → IsSound segments m
+        → IsRun segments m es → IsSound segments (after m es) }
 {}
 
-/// An order begins, goes on, fails or is dropped: the machine stays sound.
-pub fn orders()
-    ensures acts { (p : Pool) (m : Machine) → IsMachineAt p m
-        → IsKept p (happens m (Acts Monitor)) }
-    ensures fails { (p : Pool) (m : Machine) (done : Bool) → IsMachineAt p m
-        → IsKept p (happens m (Fails Monitor done)) }
-    ensures begins { (p : Pool) (m : Machine) (order : Order) (heirs : List ℕ) → IsMachineAt p m
-        → MayOrder m order heirs → IsKept p (happens m (Orders order heirs)) }
-    ensures drops { (p : Pool) (m : Machine) → IsMachineAt p m → IsKept p (happens m Drops) }
+/// The receipts that stand, in order of position, are a history: a plain map that starts empty gives each call the reply
+/// of its receipt, and in the end it is what the words hold, which hold no other map.
+pub fn histories()
+    ensures legal { (segments : ℕ) (m : Machine) (hs : List Made) → IsSound segments m
+        → IsHistory m hs → IsLegal hs }
+    ensures map { (segments : ℕ) (m : Machine) (hs : List Made) → IsSound segments m
+        → IsHistory m hs → HoldsMap m.words (map_left hs) }
+    ensures alone { (segments : ℕ) (m : Machine) (hs : List Made) (map : Bytes)
+        → IsSound segments m → IsHistory m hs → HoldsMap m.words map → map ≡ map_left hs }
 {}
 
-/// A session loads a deed, numbers a call, is told a position or cells, or is closed while no lane has a call of it: the
-/// machine stays sound.
-pub fn sessions()
-    ensures acts { (p : Pool) (m : Machine) (s : ℕ) → IsMachineAt p m
-        → IsKept p (happens m (Acts (Session s))) }
-    ensures fails { (p : Pool) (m : Machine) (s : ℕ) (done : Bool) → IsMachineAt p m
-        → IsKept p (happens m (Fails (Session s) done)) }
-    ensures loads { (p : Pool) (m : Machine) (s slot : ℕ) → IsMachineAt p m → slot < 64
-        → IsKept p (happens m (Loads s slot)) }
-    ensures numbers { (p : Pool) (m : Machine) (s : ℕ) → IsMachineAt p m
-        → IsKept p (happens m (Numbers s)) }
-    ensures told { (p : Pool) (m : Machine) (s : ℕ) (at : Position) → IsMachineAt p m
-        → IsSession s × (m.callers.closed s ≡ false) → IsKept p (happens m (Tells s at)) }
-    ensures hinted { (p : Pool) (m : Machine) (s : ℕ) (pairs : List (ℕ × ℕ)) → IsMachineAt p m
-        → IsKept p (happens m (Hints s pairs)) }
-    ensures closes { (p : Pool) (m : Machine) (s : ℕ) → IsMachineAt p m → HasNoCall m s
-        → IsKept p (happens m (Closes s)) }
+/// Each session's calls stand in the order in which it made them, behind all that it knew when it made them: in the
+/// history, and as their receipts came.
+pub fn callers_order()
+    ensures history { (segments : ℕ) (m : Machine) (hs : List Made) → IsSound segments m
+        → IsHistory m hs → KeepsCallersOrder m.callers.told hs }
+    ensures came { (segments : ℕ) (m : Machine) → IsSound segments m
+        → KeepsCallersOrder m.callers.told (receipts_of m.callers.receipts) }
+{}
+
+/// Whatever becomes of its lane, the words at the place of a put's or delete's receipt spell its record, within what the
+/// lane has sealed.
+pub fn records()
+    ensures { (segments : ℕ) (m : Machine) (r : Made) → IsSound segments m
+        → Contains (receipts_of m.callers.receipts) r → IsWrite r.call → IsSealedIn m.words r }
+{}
+
+/// A session that isn't closed was answered each of its receipts; a receipt without an answer is its session's last.
+pub fn answers()
+    ensures given { (segments : ℕ) (m : Machine) (x : Standing) → IsSound segments m
+        → Contains m.callers.receipts x → IsSession x.receipt.position.session
+        → m.callers.closed x.receipt.position.session ≡ false → x.answered ≡ true }
+    ensures last { (segments : ℕ) (m : Machine) (x y : Standing) → IsSound segments m
+        → Contains m.callers.receipts x → Contains m.callers.receipts y
+        → y.receipt.position.session ≡ x.receipt.position.session → x.answered ≡ false
+        → y.receipt.number ≤ x.receipt.number }
+{}
+
+/// What a lane's action does to the map that the words hold. A call that is made at it is answered what the plain map
+/// answers, which the words hold before the action, and leaves what the plain map leaves; any other action of a lane, and
+/// so each attempt that ends in anything but made, leaves the map.
+pub fn attempts()
+    ensures reply { (segments : ℕ) (m : Machine) (n : ℕ) (l : LaneState) (action : Action) (r : Made)
+        (map : Bytes) → IsSound segments m → m.lanes n ≡ Some l → next_of l ≡ Some action
+        → receipt_by (turn_of l (found m action)) ≡ Some r → HoldsMap m.words map
+        → r.reply ≡ reply_of r.call map }
+    ensures map { (segments : ℕ) (m : Machine) (n : ℕ) (l : LaneState) (action : Action) (r : Made)
+        (map : Bytes) → IsSound segments m → m.lanes n ≡ Some l → next_of l ≡ Some action
+        → receipt_by (turn_of l (found m action)) ≡ Some r → HoldsMap m.words map
+        → HoldsMap (words_after action m.words) (map_after r.call map) }
+    ensures unmade { (segments : ℕ) (m : Machine) (n : ℕ) (l : LaneState) (action : Action)
+        (map : Bytes) → IsSound segments m → m.lanes n ≡ Some l → next_of l ≡ Some action
+        → receipt_by (turn_of l (found m action)) ≡ None → HoldsMap m.words map
+        → HoldsMap (words_after action m.words) map }
 {}

@@ -1,0 +1,8 @@
+use Rattle.dn_machine.proofs.Histories.{answered, last_call}
+use Rattle.dn_machine.proofs.laws.answers.Goals as goal
+
+pub returns-clause-given : goal.returns-clause-given
+returns-clause-given c = answered
+
+pub returns-clause-last : goal.returns-clause-last
+returns-clause-last c = last_call
