@@ -15,3 +15,4 @@ pub mod CallersOrder
 pub mod Histories
 pub mod Kept
 pub mod Attempts
+pub mod Quiet

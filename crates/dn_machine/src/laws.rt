@@ -16,7 +16,7 @@ ghost use Rattle.dn_lanes.specs.Stepped.{receipt_by};
 ghost use Rattle.dn_callers.specs.Callers.{Standing, receipts_of};
 ghost use Rattle.dn_callers.specs.Sessions.{IsSession};
 ghost use Rattle.dn_machine.specs.State.{Machine, resting};
-ghost use Rattle.dn_machine.specs.Events.{Event, found, happens};
+ghost use Rattle.dn_machine.specs.Events.{Event, Merger, Monitor, Acts, found, happens};
 ghost use Rattle.dn_machine.specs.Given.{IsGiven};
 ghost use Rattle.dn_machine.specs.Sound.{IsSound};
 ghost use Rattle.dn_machine.specs.Runs.{after, IsRun};
@@ -92,4 +92,12 @@ pub fn attempts()
         (map : Bytes) → IsSound segments m → m.lanes n ≡ Some l → next_of l ≡ Some action
         → receipt_by (turn_of l (found m action)) ≡ None → HoldsMap m.words map
         → HoldsMap (words_after action m.words) map }
+{}
+
+/// A merger's action and the monitor's leave the map that the words hold.
+pub fn others()
+    ensures mergers { (segments : ℕ) (m : Machine) (n : ℕ) (map : Bytes) → IsSound segments m
+        → HoldsMap m.words map → HoldsMap (happens m (Acts (Merger n))).words map }
+    ensures monitor { (segments : ℕ) (m : Machine) (map : Bytes) → IsSound segments m
+        → HoldsMap m.words map → HoldsMap (happens m (Acts Monitor)).words map }
 {}
