@@ -1,8 +1,6 @@
-use Rattle.std.proofs.Common.{ℕ, ◌+◌, ◌*◌, ◌<◌, ◌≤◌, ◌≡◌, ◌≢◌, ◌⊎◌, inl, inr, false, List, [], ◌∷◌, ◌++◌, Contains, Option, refl, sym, ◌∙◌, ap, arith, append-nil}
+use Rattle.std.proofs.Common.{ℕ, ◌+◌, ◌*◌, ◌<◌, ◌≤◌, ◌≡◌, ◌≢◌, ◌⊎◌, inl, inr, List, [], Option, sym, ◌∙◌, ap, arith, append-nil}
 use Rattle.dn_act.specs.Words.{word_at}
 use Rattle.dn_model.specs.Regions.{gate_at, directory, directory_at, bucket, bucket_at, home_of, IsLane}
-use Rattle.dn_store.specs.Standing.{InChain, IsIndexed}
-use Rattle.dn_store.specs.Overflow.{IsOverflow}
 use Rattle.dn_owners.specs.Later.{IsLater}
 use Rattle.dn_beside.specs.Pool.{Pool, store_in, IsWhole}
 use Rattle.dn_beside.specs.Grown.{Grows}
@@ -60,10 +58,13 @@ path_apart k at p q h s out lt chains index = record {
 
 -- ---- what grows, where no directory word is stored that names a sealed segment
 pub grows_apart : (at : ℕ) (p q : Pool) → IsAlike p.words q.words at → IsLater p.owners q.owners → (store_in q).pool ≡ (store_in p).pool
+    → (store_in p).segment_count ≤ (store_in q).segment_count → (store_in p).bucket_count ≤ (store_in q).bucket_count
     → ((n i : ℕ) → IsLane n → i * 1024 < ((store_in p).gates n).len → directory_at n i ≢ at) → Grows p q
-grows_apart at p q s later pool apart = record {
+grows_apart at p q s later pool segments buckets apart = record {
   later = later;
   pool = pool;
+  segments = segments;
+  buckets = buckets;
   named = λ n i l lt. s.other (directory_at n i) (apart n i l lt);
 }
 

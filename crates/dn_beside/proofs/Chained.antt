@@ -1,21 +1,17 @@
-use Rattle.std.proofs.Common.{ℕ, ◌+◌, ◌*◌, ◌<◌, ◌≤◌, ◌≡◌, ◌≢◌, ◌⊎◌, inl, inr, Bool, true, false, List, [], ◌∷◌, ◌++◌, Contains, Option, Some, None, refl, sym, ◌∙◌, ap, subst, arith, append_assoc}
+use Rattle.std.proofs.Common.{ℕ, ◌≤◌, ◌≡◌, ◌⊎◌, inl, inr, List, ◌∷◌, ◌++◌, Contains, None, sym, ◌∙◌, ap, subst, arith, append_assoc}
 use Rattle.std.proofs.lemmas.List.Elements.{Contains-append_left}
 use Rattle.dn_word.specs.declared.packed.deed.Deed.{Deed}
 use Rattle.dn_word.specs.declared.packed.deed.DeedState.{DeedState}
 use Rattle.dn_word.specs.declared.packed.deed.DeedState.TheVariants.{Leaving, Released}
-use Rattle.dn_record.specs.declared.records.Record.{Record}
-use Rattle.dn_model.specs.Regions.{directory, home_of, bucket, IsLane}
+use Rattle.dn_model.specs.Regions.{home_of}
 use Rattle.dn_model.specs.declared.logs.Placed.{Placed}
-use Rattle.dn_model.specs.Held.{unmerged}
 use Rattle.dn_store.specs.Standing.{IsPlaceOf}
 use Rattle.dn_store.specs.Holding.{waiting}
-use Rattle.dn_store.proofs.Frames.{first_or_behind}
-use Rattle.dn_owners.specs.Known.{Look}
 use Rattle.dn_owners.specs.Given.{IsStep}
-use Rattle.dn_owners.specs.Later.{IsRisen, IsLater}
+use Rattle.dn_owners.specs.Later.{IsLater}
 use Rattle.dn_owners.specs.Merging.{IsWaiting}
 use Rattle.dn_owners.proofs.Last.{none_found, found_none}
-use Rattle.dn_beside.specs.Pool.{Pool, store_in, IsWhole}
+use Rattle.dn_beside.specs.Pool.{Pool, store_in}
 use Rattle.dn_beside.specs.Grown.{Grows}
 use Rattle.dn_beside.specs.Chains.{IsChainKept, IsPathKept}
 use Rattle.dn_beside.specs.Lanes.{LeavesOwn, IsMoved, LeavesKey, LeavesLane}
@@ -43,6 +39,8 @@ pub grows_then : (p q r : Pool) → Grows p q → Grows q r → Grows p r
 grows_then p q r a b = record {
   later = later_then p q r a.later b.later;
   pool = b.pool ∙ a.pool;
+  segments = omega (arith, a.segments, b.segments);
+  buckets = omega (arith, a.buckets, b.buckets);
   named = λ n i l lt. b.named n i l (omega (arith, lt, (a.later.gates n).len)) ∙ a.named n i l lt;
 }
 

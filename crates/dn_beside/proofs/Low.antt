@@ -50,7 +50,7 @@ low_step a p e at new h low g rep c =
     let alike : IsAlike p.words q.words at = record { other = λ i d. word_at-set_other p.words at i new d } in
     record {
       whole = record { represents = rep; sound = kept p.owners e order h.sound g; deeds = c.deeds; plain = c.plain };
-      grows = grows_apart at p q alike grown c.pool (λ n i l lt s. absurd (omega (arith, s, low)));
+      grows = grows_apart at p q alike grown c.pool (omega (arith, c.segment_count)) (omega (arith, c.bucket_count)) (λ n i l lt s. absurd (omega (arith, s, low)));
       lanes = λ n l d. record {
         own = record {
           pool = c.pool;

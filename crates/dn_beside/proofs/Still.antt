@@ -1,18 +1,17 @@
-use Rattle.std.proofs.Common.{ℕ, ◌+◌, ◌*◌, ◌<◌, ◌≤◌, ◌≡◌, ◌≢◌, ◌⊎◌, inl, inr, false, List, [], ◌∷◌, ◌++◌, Option, refl, sym, ◌∙◌, ap, subst, arith, append-nil}
+use Rattle.std.proofs.Common.{ℕ, ◌≤◌, ◌≡◌, ◌≢◌, inl, false, [], refl, sym, ◌∙◌, ap, subst, arith, append-nil}
 use Rattle.dn_store.specs.Holding.{authority_in, holds}
 use Rattle.dn_owners.specs.Sound.{Agrees}
 use Rattle.dn_owners.proofs.Grown.{risen_same}
 use Rattle.dn_model.specs.Regions.{home_of}
-use Rattle.dn_owners.specs.Known.{Owners, Knows, Watch}
-use Rattle.dn_owners.specs.Events.{Event}
+use Rattle.dn_owners.specs.Known.{Owners}
 use Rattle.dn_owners.specs.Later.{IsRisen, IsLater}
-use Rattle.dn_beside.specs.Pool.{Pool, store_in, IsWhole}
+use Rattle.dn_beside.specs.Pool.{Pool, IsWhole}
 use Rattle.dn_beside.specs.Grown.{Grows}
 use Rattle.dn_beside.specs.Chains.{IsChainKept, IsPathKept}
-use Rattle.dn_beside.specs.Lanes.{LeavesOwn, LeavesKey, LeavesLane}
+use Rattle.dn_beside.specs.Lanes.{LeavesOwn, LeavesLane}
 use Rattle.dn_beside.specs.Mergers.{LeavesMerger}
 use Rattle.dn_beside.specs.Orders.{LeavesOrder}
-use Rattle.dn_beside.specs.Step.{Acting, IsStepBy, IsQuiet, by_nobody}
+use Rattle.dn_beside.specs.Step.{Acting, IsStepBy, IsQuiet}
 
 -- What a step leaves that changes no word and nothing of the store.
 
@@ -53,8 +52,8 @@ later_still p o e more = record {
   promised = more;
 }
 
-grows_still : (p : Pool) (o : Owners) → o.store ≡ p.owners.store → ((k : ℕ) → p.owners.promised k ≤ o.promised k) → Grows p (record p { owners = o })
-grows_still p o e more = record { later = later_still p o e more; pool = ap (λ s. s.pool) e; named = λ n i l lt. refl }
+pub grows_still : (p : Pool) (o : Owners) → o.store ≡ p.owners.store → ((k : ℕ) → p.owners.promised k ≤ o.promised k) → Grows p (record p { owners = o })
+grows_still p o e more = record { later = later_still p o e more; pool = ap (λ s. s.pool) e; segments = omega (arith, ap (λ s. s.segment_count) e); buckets = omega (arith, ap (λ s. s.bucket_count) e); named = λ n i l lt. refl }
 
 lane_still : (n : ℕ) (p : Pool) (o : Owners) → o.store ≡ p.owners.store → o.knows n ≡ p.owners.knows n → LeavesLane n p (record p { owners = o })
 lane_still n p o e knows = record {

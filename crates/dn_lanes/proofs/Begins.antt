@@ -41,7 +41,7 @@ pub record IsAtRest (n : ℕ) (l : LaneState) (p : Pool) : Type 0 where
   pub lane : IsLaneAt n l p
   pub idle : l.mode ≡ mode.Idle
 
-rests : (n : ℕ) (l : LaneState) (p : Pool) → IsAtRest n l p → (l.base.staging ≡ []) × LooksAtNothing (p.owners.knows n).look
+rests : (n : ℕ) (l : LaneState) (p : Pool) → IsAtRest n l p → IsAt (p.owners.knows n).look n l.base l.asked mode.Idle
 rests n l p h = subst (IsAt (p.owners.knows n).look n l.base l.asked) h.idle h.lane.at
 
 -- the room that is reserved for pending records is nobody's to know
@@ -93,7 +93,7 @@ lane_begins p n segments h lane un same few =
         log = log_lasts p t.q n (empty_log n segments) (own_lesson n p t.q t.lesson) log;
         learns = t.learns;
         fetch = same ∙ sym (ap (λ (s : StoreState). s.pool) t.lesson.store);
-        at = (refl, t.ended);
+        at = (refl, t.ended, refl);
         knows = λ clear. tt;
       };
     }

@@ -85,7 +85,7 @@ idle p q n now g h empty =
       r = t.q;
       lesson = t.lesson;
       learns = t.learns;
-      lane = record { log = d.log; learns = t.learns; fetch = d.fetch; at = (empty, t.ended); knows = λ clear. tt };
+      lane = record { log = d.log; learns = t.learns; fetch = d.fetch; at = (empty, t.ended, refl); knows = λ clear. tt };
     }
 
 pub ends_so : (p q : Pool) (n : ℕ) (l : LaneState) (now : List ℕ) (g : Base) (a : Asked) (e : EndOf) → HasDone p n now g q → IsQuiet p q → g.staging ≡ [] → receipt_by (turn_by a e) ≡ None

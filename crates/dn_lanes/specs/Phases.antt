@@ -101,7 +101,7 @@ pub record IsSealing (seen : Option Look) (n : ℕ) (g : Base) (a : Asked) (r : 
   pub stages : MayStageAll g.known.log g.staging
 
 abbrev pub IsAt : Option Look → ℕ → Base → Asked → Mode → Type 0
-IsAt seen n g a mode.Idle = (g.staging ≡ []) × LooksAtNothing seen
+IsAt seen n g a mode.Idle = (g.staging ≡ []) × LooksAtNothing seen × (a ≡ asked.Nothing)
 IsAt seen n g a (mode.Acting wait) = (g.staging ≡ []) × IsActing seen n a wait
 IsAt seen n g a (mode.Finding wait find) = (g.staging ≡ []) × IsFinding seen a wait find
 IsAt seen n g a (mode.Claiming (room.Call (rooming.Write r)) claim) = (g.staging ≡ []) × IsClaiming seen n g a r claim

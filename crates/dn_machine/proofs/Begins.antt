@@ -1,4 +1,4 @@
-use Rattle.std.proofs.Common.{ℕ, ◌+◌, ◌≤◌, ◌≡◌, ◌≢◌, Option, Some, None, refl, sym, subst, arith}
+use Rattle.std.proofs.Common.{ℕ, ◌+◌, ◌≤◌, ◌≡◌, ◌≢◌, Option, Some, None, refl, sym, ◌∙◌, subst, arith}
 use Rattle.dn_hist.specs.Calls.{key_of}
 use Rattle.dn_hist.specs.declared.calls.Call.{Call}
 use Rattle.dn_hist.specs.declared.calls.Call.TheVariants.{Get, Put, Delete}
@@ -16,12 +16,15 @@ use Rattle.dn_lanes.specs.Begun.{IsOwnTask}
 use Rattle.dn_lanes.specs.Calls.{IsCall}
 use Rattle.dn_lanes.specs.Lane.{IsLaneAt}
 use Rattle.dn_lanes.proofs.Begins.{call_begins, task_begins}
+use Rattle.dn_lane2.specs.declared.modes.Mode.TheVariants.{Idle}
 use Rattle.dn_machine.specs.State.{Machine}
 use Rattle.dn_machine.specs.Events.{Asks, Tends, with_lane, of_lane, happens}
-use Rattle.dn_machine.specs.Given.{IsOfSession, HasNoCall, IsFree, MayAsk, IsTask}
+use Rattle.dn_machine.specs.Given.{IsOfSession, HasNoCall, IsFree, MayAsk}
 use Rattle.dn_machine.specs.Sound.{claims, claiming, IsCallOf, IsMachineAt}
 use Rattle.dn_machine.specs.Kept.{IsKept}
 use Rattle.dn_machine.proofs.Lanes.{lane_changes, claims_change}
+use Rattle.dn_machine.proofs.LaneActs.{lane_of}
+use Rattle.dn_machine.proofs.Rest.{stays, same_grows}
 
 -- A lane begins a call or a task.
 
@@ -29,7 +32,7 @@ use Rattle.dn_machine.proofs.Lanes.{lane_changes, claims_change}
 pub at_lane : (p : Pool) (m : Machine) (n : ℕ) (change : LaneState → Machine) → IsMachineAt p m → ((l : LaneState) → m.lanes n ≡ Some l → IsKept p (change l)) → IsKept p (of_lane m (m.lanes n) change)
 at_lane p m n change h each = by (m.lanes n) refl where
   by : (o : Option LaneState) → m.lanes n ≡ o → IsKept p (of_lane m o change)
-  by None e = record { q = p; at = h; pool = refl }
+  by None e = stays p m h
   by (Some l) e = each l e
 
 -- no word is stored
@@ -63,10 +66,13 @@ begins_so p m n was l h = record {
     callers = h.at_p.callers;
     counts = omega (arith, h.at_p.room.segments, claims_change m.lanes n was (Some l) h.number h.was_there, h.claims);
   });
-  pool = refl;
+  grows = same_grows p;
 }
 
 -- ---- a call
+idle_now : (m : Machine) (n : ℕ) (l : LaneState) → IsFree m n → m.lanes n ≡ Some l → l.mode ≡ Idle
+idle_now m n l f is = subst (λ (x : LaneState). x.mode ≡ Idle) (same_some f.lane l (sym f.runs ∙ is)) f.idle
+
 call_key : (call : Call) → IsCall call → key_of call ≢ 0
 call_key (Get key) h = h
 call_key (Put key value) h = h.0
@@ -76,26 +82,20 @@ pub asks : (p : Pool) (m : Machine) (n : ℕ) (view : SessionView) (call : Call)
 asks p m n view call h may = at_lane p m n (λ l. with_lane m n (Some (begun l view call))) h (λ l is. begins_so p m n l (begun l view call) (record {
   at_p = h;
   was_there = is;
-  number = may.free.0;
-  lane = call_begins n l view call p (record { lane = h.know.lanes n l is; idle = may.free.1 l is }) may.fits may.last;
+  number = lane_of p m n l h is;
+  lane = call_begins n l view call p (record { lane = h.know.lanes n l is; idle = idle_now m n l may.free is }) may.fits may.last;
   call = (may.good, call_key call may.fits);
   alone = λ s e. subst (HasNoCall m) e may.alone;
   claims = refl;
 }))
 
 -- ---- a task
-own_task : (t : Task) → IsTask t → IsOwnTask t
-own_task (Release slot) h = h
-own_task Trim h = h
-own_task (Share key) h = h
-own_task (Unshare key) h = h
-
-pub tends : (p : Pool) (m : Machine) (n : ℕ) (task : Task) → IsMachineAt p m → IsFree m n × IsTask task → IsKept p (happens m (Tends n task))
+pub tends : (p : Pool) (m : Machine) (n : ℕ) (task : Task) → IsMachineAt p m → IsFree m n × IsOwnTask task → IsKept p (happens m (Tends n task))
 tends p m n task h may = at_lane p m n (λ l. with_lane m n (Some (begun_task l task))) h (λ l is. begins_so p m n l (begun_task l task) (record {
   at_p = h;
   was_there = is;
-  number = may.0.0;
-  lane = task_begins n l task p (record { lane = h.know.lanes n l is; idle = may.0.1 l is }) (own_task task may.1);
+  number = lane_of p m n l h is;
+  lane = task_begins n l task p (record { lane = h.know.lanes n l is; idle = idle_now m n l may.0 is }) may.1;
   call = tt;
   alone = λ s e. absurd e;
   claims = refl;

@@ -57,7 +57,7 @@ by_next p m n l (Some action) h is e =
     let c : LaneStepped p n l (found m action) (words_after action m.words) = lane_comes p m n l action h is e in
     let t : Taken = taken_by l.base l.asked l.mode (found m action) in
     let a : IsAction p m n l (words_after action m.words) t = record { at_p = h; there = is; comes = c; same = taken_same l.base l.asked l.mode (found m action) } in
-    record { q = c.q; at = acted_so p m n l (words_after action m.words) t a; pool = c.by.grows.pool }
+    record { q = c.q; at = acted_so p m n l (words_after action m.words) t a; grows = c.by.grows }
 
 by_lane_acts : (p : Pool) (m : Machine) (n : ℕ) (o : Option LaneState) → IsMachineAt p m → m.lanes n ≡ o → IsKept p (of_lane m o (λ l. lane_does m n l (next_of l)))
 by_lane_acts p m n None h is = stays p m h
@@ -90,7 +90,7 @@ by_flow p m n l index None h is e = stays p m h
 by_flow p m n l index (Some action) h is e =
     let now : List ℕ = words_after action m.words in
     let s : FlowStepped p n l index now = lane_flows p n l index action (found m action) now h.whole (lane_of p m n l h is) (h.know.lanes n l is) e (performs p m action h.words) in
-    record { q = s.q; at = lane_changes p s.q m now n l (Some (flowed_of l index)) m.callers s.words (flow_change p m n l index now h is s); pool = s.by.grows.pool }
+    record { q = s.q; at = lane_changes p s.q m now n l (Some (flowed_of l index)) m.callers s.words (flow_change p m n l index now h is s); grows = s.by.grows }
 
 by_lane_flows : (p : Pool) (m : Machine) (n index : ℕ) (o : Option LaneState) → IsMachineAt p m → m.lanes n ≡ o → IsKept p (of_lane m o (λ l. flowing_lane m n l index (flow_of l.base.staging index)))
 by_lane_flows p m n index None h is = stays p m h

@@ -80,7 +80,7 @@ stopped_so p s m n l words c h a =
         callers = a.callers;
         counts = omega (arith, sum, h.count, h.at_p.room.segments);
       });
-      pool = h.by.grows.pool;
+      grows = h.by.grows;
     }
 
 -- ---- no receipt stands by it

@@ -16,3 +16,4 @@ pub mod Histories
 pub mod Kept
 pub mod Attempts
 pub mod Quiet
+pub mod Growing

@@ -126,7 +126,7 @@ made_so p m n segments h =
         receipts = none_joins p h.made.q (receipts_of m.callers.receipts) h.at_p.receipts h.made.lesson.by.grows h.made.lesson.quiet;
         callers = h.at_p.callers;
       };
-      pool = ap (λ (x : StoreState). x.pool) store;
+      grows = h.made.lesson.by.grows;
     }
 
 pub adds : (p : Pool) (m : Machine) (n segments : ℕ) → IsMachineAt p m → IsLane n × (m.mergers n ≡ None) × (segments ≡ (store_in p).pool) → IsKept p (happens m (Adds n segments))

@@ -80,7 +80,7 @@ merger_kept p m words n x y h by s at few =
         receipts = r.receipts;
         callers = h.callers;
       };
-      pool = s.step.grows.pool;
+      grows = s.step.grows;
     }
 
 -- ---- what it rests on

@@ -58,7 +58,7 @@ monitor_kept p q m words o h s =
         receipts = r.receipts;
         callers = h.callers;
       };
-      pool = s.step.grows.pool;
+      grows = s.step.grows;
     }
 
 -- an order begins or is dropped: the pool stays

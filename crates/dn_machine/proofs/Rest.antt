@@ -5,6 +5,8 @@ use Rattle.dn_act.specs.declared.actions.Action.{Action}
 use Rattle.dn_model.specs.Regions.{IsLane}
 use Rattle.dn_lane2.specs.State.{LaneState}
 use Rattle.dn_beside.specs.Pool.{Pool, store_in}
+use Rattle.dn_beside.specs.Grown.{Grows}
+use Rattle.dn_beside.proofs.Still.{grows_still}
 use Rattle.dn_beside.specs.Step.{Acting, IsStepBy, IsQuiet}
 use Rattle.dn_lanes.specs.Lane.{IsLaneAt}
 use Rattle.dn_lanes.specs.Unmade.{IsUnmade}
@@ -34,8 +36,11 @@ pub was_not_done : (p : Pool) (m : Machine) (action : Action) → p.words ≡ m.
 was_not_done p m action e = inl (sym e)
 
 -- where nothing happens
+pub same_grows : (p : Pool) → Grows p p
+same_grows p = grows_still p p.owners refl (λ k. omega arith)
+
 pub stays : (p : Pool) (m : Machine) → IsMachineAt p m → IsKept p m
-stays p m h = record { q = p; at = h; pool = refl }
+stays p m h = record { q = p; at = h; grows = same_grows p }
 
 -- where no lane acts, each lane is another than the one that does
 no_lane : (a : Acting) (n : ℕ) → a.lane ≡ 0 → IsLane n → n ≢ a.lane
@@ -62,4 +67,4 @@ rest a p q m h s quiet z = record {
 
 -- ---- what is sound goes on
 pub sound_after : (segments : ℕ) (m now : Machine) (h : IsSound segments m) → IsKept h.p now → IsSound segments now
-sound_after segments m now h k = record { p = k.q; at = k.at; pool = k.pool ∙ h.pool }
+sound_after segments m now h k = record { p = k.q; at = k.at; pool = k.grows.pool ∙ h.pool }

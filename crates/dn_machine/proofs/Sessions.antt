@@ -23,7 +23,7 @@ use Rattle.dn_machine.specs.Events.{Session, Acts, Fails, Loads, Numbers, Tells,
 use Rattle.dn_machine.specs.Given.{IsOfSession, HasNoCall}
 use Rattle.dn_machine.specs.Sound.{IsCallOf, IsMachineAt}
 use Rattle.dn_machine.specs.Kept.{IsKept}
-use Rattle.dn_machine.proofs.Rest.{stays}
+use Rattle.dn_machine.proofs.Rest.{stays, same_grows}
 
 -- What sessions do to a machine: they learn of the pool and of each other, and store no word.
 
@@ -57,7 +57,7 @@ learnt_kept p m c loads h s = record {
     receipts = s.receipts;
     callers = s.callers;
   };
-  pool = refl;
+  grows = same_grows p;
 }
 
 -- ---- calls under way stay so

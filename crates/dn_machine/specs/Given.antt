@@ -3,7 +3,6 @@ use Rattle.dn_hist.specs.declared.calls.Call.{Call}
 use Rattle.dn_hist.specs.declared.receipts.SessionView.{SessionView}
 use Rattle.dn_model.specs.Regions.{IsLane}
 use Rattle.dn_tend.specs.declared.tasks.Task.{Task}
-use Rattle.dn_tend.specs.declared.tasks.Task.TheVariants.{Release, Trim, Share, Unshare}
 use Rattle.dn_monitor.specs.Monitor.{IsOrder}
 use Rattle.dn_monitor.specs.declared.orders.Order.{Order}
 use Rattle.dn_monitor.specs.declared.orders.Order.TheVariants.{Format, Takeover}
@@ -11,6 +10,7 @@ use Rattle.dn_lane2.specs.State.{LaneState}
 use Rattle.dn_lane2.specs.declared.asked.Asked.{Asked}
 use Rattle.dn_lane2.specs.declared.asked.Asked.TheVariants as asked
 use Rattle.dn_lane2.specs.declared.modes.Mode.TheVariants.{Idle}
+use Rattle.dn_lanes.specs.Begun.{IsOwnTask}
 use Rattle.dn_lanes.specs.Calls.{IsCall}
 use Rattle.dn_orders.specs.Knowing.{AreLanes}
 use Rattle.dn_callers.specs.Sessions.{IsSession, IsUnderWay}
@@ -30,23 +30,19 @@ abbrev pub HasNoCall : Machine → ℕ → Type 0
 HasNoCall m s = (n : ℕ) (l : LaneState) → IsLane n → m.lanes n ≡ Some l → IsOfSession s l.asked → ⊥
 
 -- lane n runs, and has nothing under way
-abbrev pub IsFree : Machine → ℕ → Type 0
-IsFree m n = IsLane n × ((l : LaneState) → m.lanes n ≡ Some l → l.mode ≡ Idle)
+pub record IsFree (m : Machine) (n : ℕ) : Type 0 where
+  pub lane : LaneState
+  pub runs : m.lanes n ≡ Some lane
+  pub idle : lane.mode ≡ Idle
 
 -- a call of a session that has no other, with a view that it gave
 pub record MayAsk (m : Machine) (n : ℕ) (view : SessionView) (call : Call) : Type 0 where
   pub free : IsFree m n
   pub fits : IsCall call
   pub last : view.last.stamp < 2 ^ 31
+  pub hint : view.hint ≡ None
   pub good : IsUnderWay m.callers view
   pub alone : HasNoCall m view.session
-
--- keys aren't shared yet
-abbrev pub IsTask : Task → Type 0
-IsTask (Release slot) = slot < 64
-IsTask Trim = Unit {0}
-IsTask (Share key) = ⊥
-IsTask (Unshare key) = ⊥
 
 -- no order is under way; a pool is formatted by its opening alone
 pub record MayOrder (m : Machine) (order : Order) (heirs : List ℕ) : Type 0 where
@@ -61,7 +57,7 @@ IsGiven pool m (Flows n index) = Unit {0}
 IsGiven pool m (Fails who done) = Unit {0}
 IsGiven pool m (FlowFails n index done) = Unit {0}
 IsGiven pool m (Asks n view call) = MayAsk m n view call
-IsGiven pool m (Tends n task) = IsFree m n × IsTask task
+IsGiven pool m (Tends n task) = IsFree m n × IsOwnTask task
 IsGiven pool m (Orders order heirs) = MayOrder m order heirs
 IsGiven pool m (Loads s slot) = slot < 64
 IsGiven pool m (Adds n segments) = IsLane n × (m.mergers n ≡ None) × (segments ≡ pool)

@@ -5,3 +5,4 @@ pub mod Sound
 pub mod Kept
 pub mod Histories
 pub mod Runs
+pub mod Growing

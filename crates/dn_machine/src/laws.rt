@@ -20,6 +20,7 @@ ghost use Rattle.dn_machine.specs.Events.{Event, Merger, Monitor, Acts, found, h
 ghost use Rattle.dn_machine.specs.Given.{IsGiven};
 ghost use Rattle.dn_machine.specs.Sound.{IsSound};
 ghost use Rattle.dn_machine.specs.Runs.{after, IsRun};
+ghost use Rattle.dn_machine.specs.Growing.{HaveGrown};
 ghost use Rattle.dn_machine.specs.Histories.{IsHistory, IsSealedIn};
 
 /// The words that an opening leaves for 1 to 63 lanes, in a pool of at most 8,192 segments, are sound before anybody acts.
@@ -30,12 +31,15 @@ pub fn opening()
 
 /// Every event of every actor, in any order, keeps a machine sound: each action of a lane, a merger, the monitor or a
 /// session, whatever others have done between two of them; an action that failed, done or not done; each thing given; a
-/// stop. Actors are asked for nothing. So a run of events is sound from its beginning to its end.
+/// stop. Actors are asked for nothing. So a run of events is sound from its beginning to its end, and a bit that is set
+/// stays.
 pub fn events()
     ensures sound { (segments : ℕ) (m : Machine) (e : Event) → IsSound segments m
         → IsGiven segments m e → IsSound segments (happens m e) }
     ensures runs { (segments : ℕ) (m : Machine) (es : List Event) → IsSound segments m
         → IsRun segments m es → IsSound segments (after m es) }
+    ensures grows { (segments : ℕ) (m : Machine) (e : Event) → IsSound segments m
+        → IsGiven segments m e → HaveGrown m.words (happens m e).words }
 {}
 
 /// The receipts that stand, in order of position, are a history: a plain map that starts empty gives each call the reply

@@ -102,6 +102,7 @@ claim_own p n word now h lane low c =
       index = refl;
       takers = refl;
       bucket_count = refl;
+      segments = omega arith;
       watch = refl;
       located = λ m k l r d look slot clear a. a;
     }
@@ -130,6 +131,7 @@ miss_own p n word now h lane c =
       index = refl;
       takers = refl;
       bucket_count = refl;
+      segments = omega arith;
       watch = refl;
       located = λ m k l r d look slot clear a. a;
     }

@@ -155,6 +155,7 @@ flow_own p n log x now f =
       index = refl;
       takers = refl;
       bucket_count = refl;
+      segments = omega arith;
       watch = refl;
       located = λ m k l r d look slot clear a. a;
     }

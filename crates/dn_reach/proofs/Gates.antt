@@ -110,6 +110,7 @@ raise_own p n old stamp now h lane g =
       index = refl;
       takers = refl;
       bucket_count = refl;
+      segments = omega arith;
       watch = refl;
       located = λ m k l r d look slot clear a. located p.owners e m k l r order h.sound given look slot clear refl a;
     }

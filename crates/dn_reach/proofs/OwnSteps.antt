@@ -1,4 +1,4 @@
-use Rattle.std.proofs.Common.{ℕ, ◌+◌, ◌*◌, ◌<◌, ◌≡◌, ◌≢◌, inl, false, List, Some, sym, ◌∙◌, ap, arith, slice_set}
+use Rattle.std.proofs.Common.{ℕ, ◌+◌, ◌*◌, ◌≤◌, ◌<◌, ◌≡◌, ◌≢◌, inl, false, List, Some, sym, ◌∙◌, ap, arith, slice_set}
 use Rattle.std.proofs.lemmas.Nat.{same_from_place}
 use Rattle.dn_act.specs.Words.{word_at}
 use Rattle.dn_act.proofs.Words.{word_at-set_other}
@@ -70,6 +70,7 @@ pub record IsOwnStep (n at : ℕ) (p q : Pool) : Type 0 where
   pub index : (store_in q).index ≡ (store_in p).index
   pub takers : (store_in q).takers ≡ (store_in p).takers
   pub bucket_count : (store_in q).bucket_count ≡ (store_in p).bucket_count
+  pub segments : (store_in p).segment_count ≤ (store_in q).segment_count
   pub watch : q.owners.watch ≡ p.owners.watch
   pub located : (m k : ℕ) (l : Look) (r : Record) → m ≢ n → (p.owners.knows m).look ≡ Some l → slot_of k ≡ l.slot
       → ((store_in p).gates m).fenced ≡ false → Agrees (authority_in (store_in p) k) k r → Agrees (authority_in (store_in q) k) k r
@@ -94,7 +95,7 @@ lane_left n at p q m s l d = record {
 pub own_step : (n at : ℕ) (p q : Pool) → IsOwnStep n at p q → IsStepBy (by_lane n) p q
 own_step n at p q s = record {
   whole = s.after;
-  grows = grows_apart at p q s.alike s.later s.pool s.named;
+  grows = grows_apart at p q s.alike s.later s.pool s.segments (omega (arith, s.bucket_count)) s.named;
   lanes = λ m l d. lane_left n at p q m s l d;
   mergers = λ m l d. record {
     mark = s.marks m;

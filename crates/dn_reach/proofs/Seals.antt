@@ -148,6 +148,7 @@ seal_own p n log k r old stamp now h m z =
       index = refl;
       takers = refl;
       bucket_count = refl;
+      segments = omega arith;
       watch = refl;
       located = λ i q l x d look slot clear a. located p.owners e i q l x order h.whole.sound given look slot clear (at_other s.logs n more i d) a;
     }

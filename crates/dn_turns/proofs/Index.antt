@@ -1,4 +1,4 @@
-use Rattle.std.proofs.Common.{ℕ, ◌+◌, ◌*◌, ◌≡◌, ◌≢◌, ◌⊎◌, inl, inr, false, [], Option, Some, None, refl, sym, ◌∙◌, ap, subst, arith, append-nil}
+use Rattle.std.proofs.Common.{ℕ, ◌+◌, ◌*◌, ◌≤◌, ◌≡◌, ◌≢◌, ◌⊎◌, inl, inr, false, [], Option, Some, None, refl, sym, ◌∙◌, ap, subst, arith, append-nil}
 use Rattle.dn_record.specs.declared.records.Record.{Record}
 use Rattle.dn_model.specs.declared.logs.Placed.{Placed}
 use Rattle.dn_model.specs.Regions.{gate_at, directory_at, slot_of, IsLane}
@@ -31,6 +31,7 @@ pub record IsIndexWork (n k : ℕ) (want : Option ℕ) (p : Pool) (i : IndexStat
   pub of : Placed
   pub setting : IsSetting p.owners n k of want
   pub step : IsIndexStep n k want p i
+  pub raised : (store_in p).bucket_count ≤ i.bucket_count
 
 waits : (n k : ℕ) (want : Option ℕ) (p : Pool) (i : IndexState) → (g : IsIndexWork n k want p i) → IsWaiting p.owners n k g.of
 waits n k want p i g = record { has = g.setting.has; unmerged = g.setting.unmerged; authority = g.setting.authority }
@@ -125,6 +126,8 @@ index_grows : (n k : ℕ) (want : Option ℕ) (p : Pool) (i : IndexState) → Is
 index_grows n k want p i g = record {
   later = index_later p i;
   pool = refl;
+  segments = omega arith;
+  buckets = g.raised;
   named = λ m q l lt.
       let o = g.whole.represents.reads.logs_are m l in
       let len = ap (λ x. x.len) (g.whole.represents.table.gates m l.below) in

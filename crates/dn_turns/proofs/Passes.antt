@@ -62,7 +62,7 @@ pass_step n to of p g = record {
     deeds = g.whole.deeds;
     plain = g.whole.plain;
   };
-  grows = grows_apart (mark_at n) p (passed n to of p) (alike n to of p) (later p.owners (Pass n to of) g.passing) refl (λ m i l lt e. absurd (omega (arith, e, g.lane.below)));
+  grows = grows_apart (mark_at n) p (passed n to of p) (alike n to of p) (later p.owners (Pass n to of) g.passing) refl (omega arith) (omega arith) (λ m i l lt e. absurd (omega (arith, e, g.lane.below)));
   lanes = λ j l d. lane_left n to of p j g l;
   mergers = λ m l d. merger_left n to of p m g l d;
   order = λ f. record { watch = refl; deeds = λ t lt. inl refl };

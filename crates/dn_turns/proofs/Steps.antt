@@ -60,7 +60,7 @@ walk_turn n p to w word now t a e =
     let want : Option ℕ = want_of a.change (record { lane = n; offset = a.mark }) in
     let d : IsWalked n want p w word now = walk_steps n want p w word now (record { was = t.whole.represents; lane = t.lane.positive; key = a.positive; few = t.few }) a.walk e in
     let i : IndexState = d.index in
-    let g : IsIndexWork n w.key want p i = record { whole = t.whole; lane = t.lane; of = a.works.of; setting = walk_setting n p to w t.whole t.lane a; step = d.is } in
+    let g : IsIndexWork n w.key want p i = record { whole = t.whole; lane = t.lane; of = a.works.of; setting = walk_setting n p to w t.whole t.lane a; step = d.is; raised = omega (arith, d.count) } in
     let asks : asks_in (step_in n word (at.Walk to w)).place ≡ step_asks (walk_step w word) = walked_asks n w.key want (with_index p i) to w (walk_step w word) d.knows in
     record {
       left = record {
