@@ -6,6 +6,7 @@ pub mod Mergers
 pub mod Orders
 pub mod Sessions
 pub mod Opening
+pub mod Formatting
 pub mod LaneActs
 pub mod LaneFails
 pub mod Begins

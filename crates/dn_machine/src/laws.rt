@@ -1,13 +1,16 @@
 //! What is so of a machine, as functions without work: what each says is its contract.
 
-ghost use Rattle.std.specs.Prelude.{◌≡◌, ◌≤◌, ℕ, true, false, List, Contains, Some, None};
+ghost use Rattle.std.specs.Prelude.{◌≡◌, ◌≤◌, ℕ, true, false, List, Contains, Some, None, length};
 ghost use Rattle.dn_act.specs.Action.{words_after};
+ghost use Rattle.dn_act.specs.Words.{pool_size, IsZeros};
 ghost use Rattle.dn_act.specs.declared.actions.Action.{Action};
 ghost use Rattle.dn_hist.specs.Calls.{Bytes, IsWrite, reply_of, map_after};
 ghost use Rattle.dn_hist.specs.Replay.{IsLegal, map_left};
 ghost use Rattle.dn_hist.specs.declared.receipts.Receipt.{Receipt as Made};
 ghost use Rattle.dn_model.specs.PoolMap.{HoldsMap};
 ghost use Rattle.dn_store.specs.Fresh.{IsFreshPool};
+ghost use Rattle.dn_monitor.specs.Monitor.{begun};
+ghost use Rattle.dn_monitor.specs.declared.orders.Order.TheVariants as order;
 ghost use Rattle.dn_route.specs.CallersOrder.{KeepsCallersOrder};
 ghost use Rattle.dn_lane2.specs.Next.{next_of};
 ghost use Rattle.dn_lane2.specs.State.{LaneState};
@@ -23,9 +26,13 @@ ghost use Rattle.dn_machine.specs.Runs.{after, IsRun};
 ghost use Rattle.dn_machine.specs.Growing.{HaveGrown};
 ghost use Rattle.dn_machine.specs.Histories.{IsHistory, IsSealedIn};
 
-/// The words that an opening leaves for 1 to 63 lanes, in a pool of at most 8,192 segments, are sound before anybody acts.
+/// A pool of zeros with at most 8,192 segments is sound once the monitor's order to format it is carried out, and nobody
+/// owns a slot. So are the words that an opening leaves for 1 to 63 lanes, before anybody acts.
 pub fn opening()
-    ensures { (words : List ℕ) (pool lanes : ℕ) (owners : ℕ → ℕ)
+    ensures format { (words : List ℕ) (segments : ℕ) (heirs : List ℕ) → IsZeros words
+        → length words ≡ pool_size segments → segments ≤ 8192 → IsSound segments (happens
+        (record (resting words) { monitor = Some (begun (order.Format segments) heirs) }) (Acts Monitor)) }
+    ensures granted { (words : List ℕ) (pool lanes : ℕ) (owners : ℕ → ℕ)
         → IsFreshPool words pool lanes owners → pool ≤ 8192 → IsSound pool (resting words) }
 {}
 
