@@ -8,3 +8,7 @@ pub mod Sessions
 pub mod Opening
 pub mod LaneActs
 pub mod LaneFails
+pub mod PartsRead
+pub mod PartsSpace
+pub mod PartsLogs
+pub mod PartsCells

@@ -3,3 +3,10 @@ pub mod Events
 pub mod Given
 pub mod Sound
 pub mod Kept
+pub mod Sealed
+pub mod Space
+pub mod Logs
+pub mod Indexed
+pub mod Owning
+pub mod Stamps
+pub mod Cells
