@@ -12,3 +12,7 @@ pub mod PartsRead
 pub mod PartsSpace
 pub mod PartsLogs
 pub mod PartsCells
+pub mod PartsIndex
+pub mod PartsPending
+pub mod PartsOwning
+pub mod PartsStamps

@@ -11,6 +11,12 @@ ghost use Rattle.dn_machine.specs.Events.{Merger, Monitor, Session, Acts, Fails,
 ghost use Rattle.dn_machine.specs.Given.{HasNoCall, MayOrder};
 ghost use Rattle.dn_machine.specs.Sound.{IsMachineAt, IsSound};
 ghost use Rattle.dn_machine.specs.Kept.{IsKept};
+ghost use Rattle.dn_machine.specs.Space.{HasSpace};
+ghost use Rattle.dn_machine.specs.Logs.{HaveLogs};
+ghost use Rattle.dn_machine.specs.Indexed.{HasIndex};
+ghost use Rattle.dn_machine.specs.Owning.{IsInOneLog, HoldLooks, KnowPending};
+ghost use Rattle.dn_machine.specs.Stamps.{AreBound, GrantsInOrder};
+ghost use Rattle.dn_machine.specs.Cells.{HasUnusedCells};
 
 /// The words that an opening leaves for 1 to 63 lanes, in a pool of at most 8,192 segments, are sound before anybody acts.
 pub fn opening()
@@ -57,4 +63,18 @@ pub fn sessions()
         → IsKept p (happens m (Hints s pairs)) }
     ensures closes { (p : Pool) (m : Machine) (s : ℕ) → IsMachineAt p m → HasNoCall m s
         → IsKept p (happens m (Closes s)) }
+{}
+
+/// What a sound machine says of its words and of all who act on them, part by part, in the terms of a reader of the
+/// words. What sessions know, and the order of callers, are `AreSessions` of `dn_callers`, which `IsSound` has as it is.
+pub fn parts()
+    ensures space { (segments : ℕ) (m : Machine) → IsSound segments m → HasSpace segments m }
+    ensures logs { (segments : ℕ) (m : Machine) → IsSound segments m → HaveLogs m }
+    ensures index { (segments : ℕ) (m : Machine) → IsSound segments m → HasIndex m }
+    ensures one_log { (segments : ℕ) (m : Machine) → IsSound segments m → IsInOneLog m }
+    ensures looks { (segments : ℕ) (m : Machine) → IsSound segments m → HoldLooks m }
+    ensures pending { (segments : ℕ) (m : Machine) → IsSound segments m → KnowPending m }
+    ensures stamps { (segments : ℕ) (m : Machine) → IsSound segments m → AreBound m }
+    ensures grants { (segments : ℕ) (m : Machine) → IsSound segments m → GrantsInOrder m }
+    ensures cells { (segments : ℕ) (m : Machine) → IsSound segments m → HasUnusedCells m }
 {}
