@@ -6,3 +6,10 @@ pub mod Kept
 pub mod Histories
 pub mod Runs
 pub mod Growing
+pub mod Sealed
+pub mod Space
+pub mod Logs
+pub mod Indexed
+pub mod Owning
+pub mod Stamps
+pub mod Cells

@@ -25,6 +25,12 @@ ghost use Rattle.dn_machine.specs.Sound.{IsSound};
 ghost use Rattle.dn_machine.specs.Runs.{after, IsRun};
 ghost use Rattle.dn_machine.specs.Growing.{HaveGrown};
 ghost use Rattle.dn_machine.specs.Histories.{IsHistory, IsSealedIn};
+ghost use Rattle.dn_machine.specs.Space.{HasSpace};
+ghost use Rattle.dn_machine.specs.Logs.{HaveLogs};
+ghost use Rattle.dn_machine.specs.Indexed.{HasIndex};
+ghost use Rattle.dn_machine.specs.Owning.{IsInOneLog, HoldLooks, KnowPending};
+ghost use Rattle.dn_machine.specs.Stamps.{AreBound, GrantsInOrder};
+ghost use Rattle.dn_machine.specs.Cells.{HasUnusedCells};
 
 /// A pool of zeros with at most 8,192 segments is sound once the monitor's order to format it is carried out, and nobody
 /// owns a slot. So are the words that an opening leaves for 1 to 63 lanes, before anybody acts.
@@ -111,4 +117,18 @@ pub fn others()
         → HoldsMap m.words map → HoldsMap (happens m (Acts (Merger n))).words map }
     ensures monitor { (segments : ℕ) (m : Machine) (map : Bytes) → IsSound segments m
         → HoldsMap m.words map → HoldsMap (happens m (Acts Monitor)).words map }
+{}
+
+/// What a sound machine says of its words and of all who act on them, part by part, in the terms of a reader of the
+/// words. What sessions know, and the order of callers, are `AreSessions` of `dn_callers`, which `IsSound` has as it is.
+pub fn parts()
+    ensures space { (segments : ℕ) (m : Machine) → IsSound segments m → HasSpace segments m }
+    ensures logs { (segments : ℕ) (m : Machine) → IsSound segments m → HaveLogs m }
+    ensures index { (segments : ℕ) (m : Machine) → IsSound segments m → HasIndex m }
+    ensures one_log { (segments : ℕ) (m : Machine) → IsSound segments m → IsInOneLog m }
+    ensures looks { (segments : ℕ) (m : Machine) → IsSound segments m → HoldLooks m }
+    ensures pending { (segments : ℕ) (m : Machine) → IsSound segments m → KnowPending m }
+    ensures stamps { (segments : ℕ) (m : Machine) → IsSound segments m → AreBound m }
+    ensures grants { (segments : ℕ) (m : Machine) → IsSound segments m → GrantsInOrder m }
+    ensures cells { (segments : ℕ) (m : Machine) → IsSound segments m → HasUnusedCells m }
 {}
