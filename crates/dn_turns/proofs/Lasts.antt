@@ -63,7 +63,7 @@ knows_last n (at.Pass to) p q u k = record {
   mark = k.mark;
   works = works n p q k.mark u k.works;
   to_is = k.to_is;
-  follows = λ x e. let i = (chain n p q k.mark x u k.works e).index in elim (k.follows x e) [ inl y ↦ inl (i ∙ y) | inr y ↦ inr (i ∙ y.0, y.1) ];
+  follows = λ x e. let i = (chain n p q k.mark x u k.works e).index in elim (k.follows x e) [ inl y ↦ inl (i ∙ y.0, y.1) | inr y ↦ inr (i ∙ y.0, y.1) ];
 }
 
 pub merger_lasts : (n : ℕ) (m : Merging) (p q : Pool) → IsLeft n p q → IsMergerAt n m p → IsMergerAt n m q

@@ -28,7 +28,7 @@ use Rattle.dn_merge.specs.declared.places.Change.TheVariants.{Set, Remove}
 use Rattle.dn_merge.specs.declared.places.MergePlace.{MergePlace}
 use Rattle.dn_merge.specs.declared.places.MergePlace.TheVariants as at
 use Rattle.dn_merge.specs.declared.mergers.MergeTurn.TheVariants.{Idle}
-use Rattle.dn_turns.specs.Knows.{want_of, Suits, AtHeader, AtKey, AtWalk, AtPass, KnowsMerge}
+use Rattle.dn_turns.specs.Knows.{want_of, IsNoDelete, Suits, AtHeader, AtKey, AtWalk, AtPass, KnowsMerge}
 use Rattle.dn_turns.proofs.Logs.{record_here, spelled}
 
 -- The loads of a turn before its walk.
@@ -113,18 +113,18 @@ key_in words n mark change r word sp c w = by_record r sp c where
   second : (k len : ℕ) → mark % 1024 + len ≤ 1024 → 2 ≤ len → offsets words n (mark + 1) ≡ k → word ≡ k
   second k len fits two e = w ∙ sym (ap (λ x. word_at words x) (one_behind words n mark len fits two)) ∙ e
 
-  set : (r : Record) → Some Set ≡ Some change → Suits change r word
-  set r e = let P : Change → Type 0 = λ x. Suits x r word in subst P (some_same Set change e) (record {})
+  set : (r : Record) → IsNoDelete r → Some Set ≡ Some change → Suits change r word
+  set r no_delete e = let P : Change → Type 0 = λ x. Suits x r word in subst P (some_same Set change e) no_delete
 
   by_record : (r : Record) → SpellsAt (offsets words n) mark r → change_of (head_of r) ≡ Some change → IsKey change r word
   by_record (Put k value) h c = let e = second k (length_in_words (Put k value)) h.fits (omega arith) h.stands.1.0 in let f = h.is_record.fields_fit in
-      record { authority = same_key k word e; positive = omega (arith, e, f); suits = set (Put k value) c }
+      record { authority = same_key k word e; positive = omega (arith, e, f); suits = set (Put k value) (λ q x. absurd (cc x)) c }
   by_record (Delete k) h c = let e = second k 2 h.fits (omega arith) h.stands.1.0 in let f = h.is_record.fields_fit in
       record { authority = same_key k word e; positive = omega (arith, e, f); suits = (let P : Change → Type 0 = λ x. Suits x (Delete k) word in subst P (some_same Remove change c) (ap (λ x. Delete x) (sym e))) }
   by_record (Share k cell opening) h c = let e = second k 3 h.fits (omega arith) h.stands.1.0 in let f = h.is_record.fields_fit.0 in
-      record { authority = same_key k word e; positive = omega (arith, e, f); suits = set (Share k cell opening) c }
+      record { authority = same_key k word e; positive = omega (arith, e, f); suits = set (Share k cell opening) (λ q x. absurd (cc x)) c }
   by_record (Unshare k x) h c = let e = second k 3 h.fits (omega arith) h.stands.1.0 in let f = h.is_record.fields_fit.0 in
-      record { authority = same_key k word e; positive = omega (arith, e, f); suits = set (Unshare k x) c }
+      record { authority = same_key k word e; positive = omega (arith, e, f); suits = set (Unshare k x) (λ q y. absurd (cc y)) c }
   by_record (Loose k value) h c = absurd (not_some change c)
   by_record (LooseDelete k) h c = absurd (not_some change c)
   by_record (Pad count) h c = absurd (not_some change c)

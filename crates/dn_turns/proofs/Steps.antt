@@ -14,7 +14,7 @@ use Rattle.dn_walks.proofs.Changing.{walk_steps}
 use Rattle.dn_merge.specs.Merge.{Merging, merge_next, next_in, step_in}
 use Rattle.dn_merge.specs.declared.places.MergePlace.{MergePlace}
 use Rattle.dn_merge.specs.declared.places.MergePlace.TheVariants as at
-use Rattle.dn_turns.specs.Knows.{want_of, AtWalk, AtPass, KnowsMerge, IsMergerAt}
+use Rattle.dn_turns.specs.Knows.{want_of, Follows, AtWalk, AtPass, KnowsMerge, IsMergerAt}
 use Rattle.dn_turns.specs.Claims.{asks_in}
 use Rattle.dn_turns.specs.Steps.{IsMergerStep, MergerStepped}
 use Rattle.dn_turns.proofs.Claims.{few_asks, walked_asks, load_asks, step_asks}
@@ -98,7 +98,7 @@ pass_turn n p to word now t a e =
         step = pass_step n to a.works.of p g;
         quiet = pass_quiet n to a.works.of p g;
         owners = refl;
-        mark = inr (record { to = to; of = a.works.of; passing = g.passing; marks = refl });
+        mark = inr (record { to = to; of = a.works.of; passing = g.passing; follows = subst (λ o. Follows (store_in p).index (record { lane = n; offset = o }) a.works.of.entry) (sym a.works.mark_is) a.follows; marks = refl });
         count = omega arith;
       };
       knows = record { number = refl; knows = record {} };

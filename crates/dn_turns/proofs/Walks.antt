@@ -18,7 +18,7 @@ use Rattle.dn_walks.specs.Changing.{KnowsStep}
 use Rattle.dn_merge.specs.Merge.{walked}
 use Rattle.dn_merge.specs.declared.places.Change.{Change}
 use Rattle.dn_merge.specs.declared.places.Change.TheVariants.{Set, Remove}
-use Rattle.dn_turns.specs.Knows.{Works, want_of, Suits, AtWalk, AtPass, KnowsMerge}
+use Rattle.dn_turns.specs.Knows.{Works, want_of, IsNoDelete, Suits, AtWalk, AtPass, KnowsMerge}
 use Rattle.dn_turns.proofs.Logs.{spelled, works_has, leads_there}
 
 -- What a walk means to the owners, and what is known when it ends.
@@ -82,8 +82,8 @@ walk_knows n p i to w a (End turn.Written) k = record {
   follows = λ q e. by_change a.change a.suits k q (one_key w.key q a.works.of.entry a.authority e);
 } where
   by_change : (c : Change) → Suits c a.works.of.entry w.key → i.index w.key ≡ want_of c (record { lane = n; offset = a.mark }) → (q : ℕ) → q ≡ w.key
-      → (i.index q ≡ Some (ref_word (record { lane = n; offset = a.mark }))) ⊎ ((i.index q ≡ None) × (a.works.of.entry ≡ Delete q))
-  by_change Set u f q e = inl (ap i.index e ∙ f)
+      → ((i.index q ≡ Some (ref_word (record { lane = n; offset = a.mark }))) × IsNoDelete a.works.of.entry) ⊎ ((i.index q ≡ None) × (a.works.of.entry ≡ Delete q))
+  by_change Set u f q e = inl (ap i.index e ∙ f, u)
   by_change Remove u f q e = inr (ap i.index e ∙ f, u ∙ ap (λ x. Delete x) (sym e))
 walk_knows n p i to w a (End (turn.IndexFull counter)) k = record {}
 
@@ -99,7 +99,7 @@ pass_passing n p to h l a =
       past = omega (arith, s.past, a.to_is);
       rest = λ q c. omega (arith, s.rest q c, a.to_is);
       followed = λ q e. elim (a.follows q e) [
-        | inl i ↦ inl (ref_word (record { lane = n; offset = a.mark }), i, leads_there n p a.mark h l a.works)
+        | inl i ↦ inl (ref_word (record { lane = n; offset = a.mark }), i.0, leads_there n p a.mark h l a.works)
         | inr i ↦ inr i
       ];
     }

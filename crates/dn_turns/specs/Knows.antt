@@ -35,15 +35,18 @@ abbrev pub want_of : Change → Ref → Option ℕ
 want_of Set at = Some (ref_word at)
 want_of Remove at = None
 
--- a key is removed for its Delete alone
+-- a key is removed for its Delete, and set for any other record
+abbrev pub IsNoDelete : Record → Type 0
+IsNoDelete r = (k : ℕ) → r ≡ Delete k → ⊥
+
 abbrev pub Suits : Change → Record → ℕ → Type 0
-Suits Set r k = Unit {0}
+Suits Set r k = IsNoDelete r
 Suits Remove r k = r ≡ Delete k
 
 -- the index follows the record: it gives its place, or nothing where it is a Delete
 abbrev pub Follows : (ℕ → Option ℕ) → Ref → Record → Type 0
 Follows index at r = (k : ℕ) → is_authority k r ≡ true
-    → (index k ≡ Some (ref_word at)) ⊎ ((index k ≡ None) × (r ≡ Delete k))
+    → ((index k ≡ Some (ref_word at)) × IsNoDelete r) ⊎ ((index k ≡ None) × (r ≡ Delete k))
 
 -- ---- by the place
 pub record AtHeader (n : ℕ) (p : Pool) (mark from : ℕ) : Type 0 where

@@ -5,7 +5,7 @@ use Rattle.dn_owners.specs.Given.{IsPassing}
 use Rattle.dn_beside.specs.Pool.{Pool, store_in}
 use Rattle.dn_beside.specs.Step.{IsStepBy, IsQuiet, by_merger}
 use Rattle.dn_merge.specs.Merge.{Merging, merge_after}
-use Rattle.dn_turns.specs.Knows.{IsMergerAt}
+use Rattle.dn_turns.specs.Knows.{Follows, IsMergerAt}
 use Rattle.dn_turns.specs.Claims.{asks_in}
 
 -- What comes of an action of lane n's merger.
@@ -15,6 +15,7 @@ pub record IsPassed (n : ℕ) (p q : Pool) : Type 0 where
   pub to : ℕ
   pub of : Placed
   pub passing : IsPassing p.owners n to of
+  pub follows : Follows (store_in p).index (record { lane = n; offset = (store_in p).marks n }) of.entry
   pub marks : (store_in q).marks ≡ with_at (store_in p).marks n to
 
 -- A pool that is whole, as all others see it. Of the store the index and the mark alone may change, with the counter of
