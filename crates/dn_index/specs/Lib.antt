@@ -1,5 +1,3 @@
 pub mod Walk
 pub mod Footprint
 pub mod Sequence
-pub mod Gives
-pub mod Alone

@@ -1,7 +1,6 @@
 //! The index: walks over its bucket chains that find, set or remove the place of a key's record, an action at a time.
 #![tactic(auto)]
 
-pub mod laws;
 mod places;
 mod steps;
 mod walks;

@@ -36,7 +36,15 @@ use Rattle.dn_walks.proofs.Seen.{index_of, seen_load, counted_index, seen_count,
 
 -- A step of a merger's walk, place by place.
 
--- ---- what each rests on
+-- ---- what each rests on, and that the counter doesn't overflow where it is added to
+pub record IsOn (n k : ℕ) (p : Pool) : Type 0 where
+  pub was : Represents p.words p.chains (store_in p)
+  pub lane : 0 < n
+  pub key : 0 < k
+
+abbrev pub IsFew : Pool → WalkPlace → Type 0
+IsFew p place = asks_at place ≡ 1 → (store_in p).bucket_count + 1 < 2 ^ 64
+
 pub record IsAt (n k : ℕ) (p : Pool) : Type 0 where
   pub was : Represents p.words p.chains (store_in p)
   pub lane : 0 < n
@@ -82,7 +90,7 @@ key_step n k want p errand t number word now h a e = loaded n k want p now (buck
   by_key true f = (a.0, record { spot = spot_of p.words p.chains k t number a.2 a.1; key = sym e.answer ∙ (let z : word ≡ k = grind (arith, nat_tests) in z) })
   by_key false f = by_number (number == 3) refl (λ g. let z : word ≢ k = grind (arith, nat_tests) in z (e.answer ∙ g))
 
-next_step : (n k : ℕ) (want : Option ℕ) (p : Pool) (errand : Errand) (t : Trail) (word : ℕ) (now : List ℕ) → IsAt n k p → KnowsWalk n k want p (Next errand t)
+next_step : (n k : ℕ) (want : Option ℕ) (p : Pool) (errand : Errand) (t : Trail) (word : ℕ) (now : List ℕ) → IsOn n k p → KnowsWalk n k want p (Next errand t)
     → Performs (Load (bucket_at t.bucket 7)) word p.words now → Comes n want p (Next errand t) k (step_at k (Next errand t) word) now
 next_step n k want p errand t word now g a e = loaded n k want p now (bucket_at t.bucket 7) (Next errand t) (step_at k (Next errand t) word) refl e.change g.was (by_word (names_bucket word) refl) where
   none : bucket p.words t.bucket 7 ≡ 0 → (store_in p).index k ≡ None
@@ -110,12 +118,12 @@ counter_step : (n k : ℕ) (want : Option ℕ) (p : Pool) (at : Ref) (last word 
 counter_step n k want p at last word now h a e = loaded n k want p now 3 (Counter at last) (step_at k (Counter at last) word) refl e.change h (by_word (nat_lt word 4096)) where
   by_word : (b : Bool) → KnowsStep n k want p (if b then On (Claim at last) else End (IndexFull word))
   by_word true = a
-  by_word false = record {}
+  by_word false = a.1.absent
 
 -- ---- the add that claims a bucket
-claim_step : (n k : ℕ) (want : Option ℕ) (p : Pool) (at : Ref) (last word : ℕ) (now : List ℕ) → IsAt n k p → KnowsWalk n k want p (Claim at last) → Performs (Add 3 1) word p.words now
+claim_step : (n k : ℕ) (want : Option ℕ) (p : Pool) (at : Ref) (last word : ℕ) (now : List ℕ) → IsOn n k p → (store_in p).bucket_count + 1 < 2 ^ 64 → KnowsWalk n k want p (Claim at last) → Performs (Add 3 1) word p.words now
     → Comes n want p (Claim at last) k (step_at k (Claim at last) word) now
-claim_step n k want p at last word now g a e = by_word (nat_lt word 4096) refl where
+claim_step n k want p at last word now g few a e = by_word (nat_lt word 4096) refl where
   total : ℕ
   total = (store_in p).bucket_count
 
@@ -123,7 +131,7 @@ claim_step n k want p at last word now g a e = by_word (nat_lt word 4096) refl w
   count = e.answer ∙ g.was.table.bucket_count
 
   is : slice_set p.words 3 (total + 1) ≡ now
-  is = sym (e.change ∙ ap (λ z. slice_set p.words 3 z) (let z : (word_at p.words 3 + 1) % 2 ^ 64 ≡ total + 1 = omega (arith, g.few, g.was.table.bucket_count) in z))
+  is = sym (e.change ∙ ap (λ z. slice_set p.words 3 z) (let z : (word_at p.words 3 + 1) % 2 ^ 64 ≡ total + 1 = omega (arith, few, g.was.table.bucket_count) in z))
 
   by_word : (b : Bool) → nat_lt word 4096 ≡ b → Comes n want p (Claim at last) k (if b then On (FillPlace at (spot (4096 + word) 1) (Some last)) else End (IndexFull word)) now
   by_word true f =
@@ -155,12 +163,12 @@ claim_step n k want p at last word now g a e = by_word (nat_lt word 4096) refl w
     index = counted_index p (store_in p).takers;
     words = is;
     is = seen_count n k want p (store_in p).takers (bucket_miss p.words p.chains (store_in p) g.was) (λ m c d pos x. x);
-    knows = record {};
+    knows = a.1.absent;
     count = refl;
   }
 
 -- ---- where the key was met
-match_step : (n k : ℕ) (want : Option ℕ) (p : Pool) (errand : Errand) (s : Spot) (word : ℕ) (now : List ℕ) → IsAt n k p → KnowsWalk n k want p (Match errand s) → Performs (next_at k (Match errand s)) word p.words now
+match_step : (n k : ℕ) (want : Option ℕ) (p : Pool) (errand : Errand) (s : Spot) (word : ℕ) (now : List ℕ) → IsOn n k p → KnowsWalk n k want p (Match errand s) → Performs (next_at k (Match errand s)) word p.words now
     → Comes n want p (Match errand s) k (step_at k (Match errand s) word) now
 match_step n k want p Find s word now g a e = absurd a.0
 match_step n k want p (Set at) s word now g a e =
@@ -215,7 +223,7 @@ match_step n k want p Remove s word now g a e =
     }
 
 -- ---- the place word of a free place
-fill_place_step : (n k : ℕ) (want : Option ℕ) (p : Pool) (at : Ref) (s : Spot) (from : Option ℕ) (word : ℕ) (now : List ℕ) → IsAt n k p → KnowsWalk n k want p (FillPlace at s from) → Performs (Store (place_at s) (ref_word at)) word p.words now
+fill_place_step : (n k : ℕ) (want : Option ℕ) (p : Pool) (at : Ref) (s : Spot) (from : Option ℕ) (word : ℕ) (now : List ℕ) → IsOn n k p → KnowsWalk n k want p (FillPlace at s from) → Performs (Store (place_at s) (ref_word at)) word p.words now
     → Comes n want p (FillPlace at s from) k (step_at k (FillPlace at s from) word) now
 fill_place_step n k want p at s None word now g a e =
     let c = a.1.0.spot in
@@ -282,7 +290,7 @@ fill_place_step n k want p at s (Some last) word now g a e =
     }
 
 -- ---- and its key word
-fill_key_step : (n k : ℕ) (want : Option ℕ) (p : Pool) (s : Spot) (from : Option ℕ) (word : ℕ) (now : List ℕ) → IsAt n k p → KnowsWalk n k want p (FillKey s from) → Performs (Store (key_at s) k) word p.words now
+fill_key_step : (n k : ℕ) (want : Option ℕ) (p : Pool) (s : Spot) (from : Option ℕ) (word : ℕ) (now : List ℕ) → IsOn n k p → KnowsWalk n k want p (FillKey s from) → Performs (Store (key_at s) k) word p.words now
     → Comes n want p (FillKey s from) k (step_at k (FillKey s from) word) now
 fill_key_step n k want p s None word now g a e =
     let c = a.1.0.spot in
@@ -350,7 +358,7 @@ fill_key_step n k want p s (Some last) word now g a e =
     }
 
 -- ---- the next word of the last bucket
-link_step : (n k : ℕ) (want : Option ℕ) (p : Pool) (last new word : ℕ) (now : List ℕ) → IsAt n k p → KnowsWalk n k want p (Link last new) → Performs (Store (bucket_at last 7) new) word p.words now
+link_step : (n k : ℕ) (want : Option ℕ) (p : Pool) (last new word : ℕ) (now : List ℕ) → IsOn n k p → KnowsWalk n k want p (Link last new) → Performs (Store (bucket_at last 7) new) word p.words now
     → Comes n want p (Link last new) k (step_at k (Link last new) word) now
 link_step n k want p last new word now g a e =
     let l = a.2 in
@@ -382,17 +390,20 @@ link_step n k want p last new word now g a e =
     }
 
 -- ---- any place
-place_steps : (n k : ℕ) (want : Option ℕ) (p : Pool) (place : WalkPlace) (word : ℕ) (now : List ℕ) → IsAt n k p → KnowsWalk n k want p place → Performs (next_at k place) word p.words now → Comes n want p place k (step_at k place word) now
-place_steps n k want p (Key errand t number) word now g a e = key_step n k want p errand t number word now g.was a e
-place_steps n k want p (Next errand t) word now g a e = next_step n k want p errand t word now g a e
-place_steps n k want p (Match errand s) word now g a e = match_step n k want p errand s word now g a e
-place_steps n k want p (Counter at last) word now g a e = counter_step n k want p at last word now g.was a e
-place_steps n k want p (Claim at last) word now g a e = claim_step n k want p at last word now g a e
-place_steps n k want p (FillPlace at s from) word now g a e = fill_place_step n k want p at s from word now g a e
-place_steps n k want p (FillKey s from) word now g a e = fill_key_step n k want p s from word now g a e
-place_steps n k want p (Link last new) word now g a e = link_step n k want p last new word now g a e
+place_steps : (n k : ℕ) (want : Option ℕ) (p : Pool) (place : WalkPlace) (word : ℕ) (now : List ℕ) → IsOn n k p → IsFew p place → KnowsWalk n k want p place → Performs (next_at k place) word p.words now → Comes n want p place k (step_at k place word) now
+place_steps n k want p (Key errand t number) word now g few a e = key_step n k want p errand t number word now g.was a e
+place_steps n k want p (Next errand t) word now g few a e = next_step n k want p errand t word now g a e
+place_steps n k want p (Match errand s) word now g few a e = match_step n k want p errand s word now g a e
+place_steps n k want p (Counter at last) word now g few a e = counter_step n k want p at last word now g.was a e
+place_steps n k want p (Claim at last) word now g few a e = claim_step n k want p at last word now g (few refl) a e
+place_steps n k want p (FillPlace at s from) word now g few a e = fill_place_step n k want p at s from word now g a e
+place_steps n k want p (FillKey s from) word now g few a e = fill_key_step n k want p s from word now g a e
+place_steps n k want p (Link last new) word now g few a e = link_step n k want p last new word now g a e
+
+pub walk_goes : (n : ℕ) (want : Option ℕ) (p : Pool) (w : Walking) (word : ℕ) (now : List ℕ) → IsOn n w.key p → IsFew p w.place → KnowsWalk n w.key want p w.place → Performs (walk_next w) word p.words now → IsWalked n want p w word now
+walk_goes n want p w word now g few a e =
+    let c = place_steps n w.key want p w.place word now g few a e in
+    record { index = c.index; words = c.words; is = c.is; knows = c.knows; count = c.count }
 
 pub walk_steps : (n : ℕ) (want : Option ℕ) (p : Pool) (w : Walking) (word : ℕ) (now : List ℕ) → IsAt n w.key p → KnowsWalk n w.key want p w.place → Performs (walk_next w) word p.words now → IsWalked n want p w word now
-walk_steps n want p w word now g a e =
-    let c = place_steps n w.key want p w.place word now g a e in
-    record { index = c.index; words = c.words; is = c.is; knows = c.knows; count = c.count }
+walk_steps n want p w word now g a e = walk_goes n want p w word now (record { was = g.was; lane = g.lane; key = g.key }) (λ asks. g.few) a e

@@ -4,3 +4,6 @@ pub mod Finding
 pub mod Seen
 pub mod Changing
 pub mod Keeps
+pub mod Alone
+pub mod FindsAlone
+pub mod ChangesAlone

@@ -61,13 +61,13 @@ KnowsWalk n k want p (FillKey s from) = IsPlaced want p s.bucket (s.number + 3) 
 KnowsWalk n k want p (Link last new) = IsPlaced want p new 4 × ((store_in p).takers new ≡ n)
     × IsLinking p.words p.chains (store_in p).index (store_in p).takers k last new
 
--- it ends when the index gives what is wanted, or no overflow bucket is left
+-- it ends when the index gives what is wanted, or gives nothing and no overflow bucket is left
 abbrev pub Ends : ℕ → Option ℕ → Pool → WalkTurn → Type 0
 Ends k want p More = ⊥
 Ends k want p (Found at) = ⊥
 Ends k want p Absent = ⊥
 Ends k want p Written = (store_in p).index k ≡ want
-Ends k want p (IndexFull counter) = Unit {0}
+Ends k want p (IndexFull counter) = (store_in p).index k ≡ None
 
 abbrev pub KnowsStep : ℕ → ℕ → Option ℕ → Pool → Step → Type 0
 KnowsStep n k want p (On place) = KnowsWalk n k want p place
