@@ -16,3 +16,4 @@ pub mod PartsIndex
 pub mod PartsPending
 pub mod PartsOwning
 pub mod PartsStamps
+pub mod PartsPlaces

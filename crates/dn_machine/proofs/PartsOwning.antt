@@ -39,9 +39,11 @@ use Rattle.dn_owners.proofs.Counting.{counting_some}
 use Rattle.dn_beside.specs.Pool.{Pool, store_in, IsWhole}
 use Rattle.dn_learnt.specs.Learning.{Learns, IsMet, pending_by}
 use Rattle.dn_learnt.specs.Heeding.{look_by}
-use Rattle.dn_learnt.proofs.Asks.{IsNow}
+use Rattle.dn_learnt.specs.Pendings.{IsPendingAt}
+use Rattle.dn_learnt.proofs.Asks.{IsNow, pending_is}
 use Rattle.dn_learnt.proofs.Lasts.{Rises, pending_rises, counted_at, counted_by, counted_last}
-use Rattle.dn_lanes.specs.Calls.{key_in, HasLook}
+use Rattle.dn_lanes.specs.Calls.{key_in, IsCalled, HasLook}
+use Rattle.dn_lanes.proofs.Called.{positive}
 use Rattle.dn_lanes.specs.Lane.{IsLaneAt}
 use Rattle.dn_lanes.specs.Phases.{IsActing, IsAt}
 use Rattle.dn_machine.specs.State.{Machine}
@@ -78,16 +80,20 @@ is_clear : (p : Pool) (m : Machine) (n : ℕ) (l : LaneState) → IsMachineAt p 
 is_clear p m n l h is e = ap (λ (g : Gate). g.fenced) (sym (h.whole.represents.table.gates n (lane_of p m n l h is).below)) ∙ e
 
 -- ---- after a look
-its_look : (found : Option Look) (a : Asked) (look word : ℕ) → HasLook found a look → Some look ≡ Some word → found ≡ Some (look_by (slot_of (key_in a)) word)
-its_look found a look word h e = h.looked ∙ ap (λ w. Some (look_by (slot_of (key_in a)) w)) (same_some look word e)
+record HasLooked (found : Option Look) (a : Asked) (word : ℕ) : Type 0 where
+  called : IsCalled a
+  look : found ≡ Some (look_by (slot_of (key_in a)) word)
 
-acting_look : (found : Option Look) (n : ℕ) (a : Asked) (w : Act) (word : ℕ) → IsActing found n a w → looked_at w ≡ Some word → found ≡ Some (look_by (slot_of (key_in a)) word)
+its_look : (found : Option Look) (a : Asked) (look word : ℕ) → HasLook found a look → Some look ≡ Some word → HasLooked found a word
+its_look found a look word h e = record { called = h.called; look = h.looked ∙ ap (λ w. Some (look_by (slot_of (key_in a)) w)) (same_some look word e) }
+
+acting_look : (found : Option Look) (n : ℕ) (a : Asked) (w : Act) (word : ℕ) → IsActing found n a w → looked_at w ≡ Some word → HasLooked found a word
 acting_look found n a (act.Call phase.Look) word h e = absurd (none_some word e)
 acting_look found n a (act.Call (phase.Gate look located)) word h e = its_look found a look word h e
 acting_look found n a (act.Call (phase.Raise r)) word h e = its_look found a r.look word h.0.look e
 acting_look found n a (act.Task phase) word h e = absurd (none_some word e)
 
-look_of : (found : Option Look) (n : ℕ) (g : Base) (a : Asked) (w : Mode) (word : ℕ) → IsAt found n g a w → look_in w ≡ Some word → found ≡ Some (look_by (slot_of (key_in a)) word)
+look_of : (found : Option Look) (n : ℕ) (g : Base) (a : Asked) (w : Mode) (word : ℕ) → IsAt found n g a w → look_in w ≡ Some word → HasLooked found a word
 look_of found n g a mode.Idle word h e = absurd (none_some word e)
 look_of found n g a (mode.Acting wait) word h e = acting_look found n a wait word h.1 e
 look_of found n g a (mode.Finding (locate.Call (Owner look)) find) word h e = its_look found a look word h.1.0 e
@@ -97,14 +103,16 @@ look_of found n g a (mode.Claiming (room.Task phase) claim) word h e = absurd (n
 look_of found n g a (mode.Sealing (seal.Call (sealing.Write r)) s) word h e = its_look found a r.look word h.raised.look e
 look_of found n g a (mode.Sealing (seal.Task phase) s) word h e = absurd (none_some word e)
 
+looked_by : (p : Pool) (m : Machine) (n word : ℕ) (l : LaneState) → IsMachineAt p m → m.lanes n ≡ Some l → look_in l.mode ≡ Some word → HasLooked (p.owners.knows n).look l.asked word
+looked_by p m n word l h is e = look_of (p.owners.knows n).look n l.base l.asked l.mode word (h.know.lanes n l is).at e
+
 looks_at : (p : Pool) (m : Machine) → IsMachineAt p m → HoldLooks (seen p m)
 looks_at p m h = record {
   each = λ n word l is e clear.
       let key : ℕ = key_in l.asked in
       let look : Look = look_by (slot_of key) word in
       let P : Deed → Type 0 = λ d. IsHeld d n look in
-      subst P (sym (deed_is p key h.whole)) ((h.whole.sound.looks n).held look
-      (look_of (p.owners.knows n).look n l.base l.asked l.mode word (h.know.lanes n l is).at e) (is_clear p m n l h is clear));
+      subst P (sym (deed_is p key h.whole)) ((h.whole.sound.looks n).held look (looked_by p m n word l h is e).look (is_clear p m n l h is clear));
 }
 
 pub hold_looks : (segments : ℕ) (m : Machine) → IsSound segments m → HoldLooks m
@@ -220,8 +228,22 @@ last_at p m n k l at h pos o e =
     (last_is p n k known i h.whole lane.learns ∙ place_counts known k counting at e) in
     (place_lane known counting at e ∙ lane.log.lane, latest p m n k r.of (counted_at k at.offset) h pos r)
 
+-- and after a look
+looked_at_last : (p : Pool) (m : Machine) (n word : ℕ) (l : LaneState) (at : Ref) → IsMachineAt p m → m.lanes n ≡ Some l → look_in l.mode ≡ Some word → (gate p.words n).fenced ≡ false → pending_of l.base.known (key_in l.asked) ≡ Some at
+    → (at.lane ≡ n) × IsLatestAt (seen p m) n (key_in l.asked) at.offset
+looked_at_last p m n word l at h is e clear f =
+    let key : ℕ = key_in l.asked in
+    let lane : IsLaneAt n l p = h.know.lanes n l is in
+    let look = looked_by p m n word l h is e in
+    let i : IsPendingAt p n key at = pending_is p n key l.base.known at h.whole (slot_below key) lane.log.lane
+    (record { learns = lane.learns; look = look_by (slot_of key) word; looks = look.look; slot = refl; clear = is_clear p m n l h is clear }) f in
+    let P : ℕ → Type 0 = λ o. IsLatestAt (seen p m) n key o in
+    (i.lane, subst P (sym i.offset) (latest p m n key i.of.of i.q h (positive l.asked look.called) i.of))
+
 pending_at : (p : Pool) (m : Machine) → IsMachineAt p m → KnowPending (seen p m)
 pending_at p m h = record {
+  past = λ n t l is lt. omega (arith, ((h.know.lanes n l is).learns.met t lt).upto, ap (λ (d : Deed). d.epoch) (h.whole.represents.table.deeds t lt));
+  looked = λ n word l at is e clear f. looked_at_last p m n word l at h is e clear f;
   sealed = λ n l e is c. let f = entry_is p n l.base.known e h.whole (h.know.lanes n l is).learns c in (f.x, f.at, f.of);
   counts = λ n k l x o s le. counts_at p m n k l x h o s le;
   met = λ n k l x o s le. (counted p m n k l x h o s le).learnt.epoch;

@@ -9,4 +9,5 @@ pub mod Logs
 pub mod Indexed
 pub mod Owning
 pub mod Stamps
+pub mod Places
 pub mod Cells

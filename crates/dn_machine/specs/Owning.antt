@@ -83,6 +83,9 @@ pub record IsLatestAt (m : Machine) (n k offset : ℕ) : Type 0 where
   pub latest : IsLatest m k p.entry
 
 pub record KnowPending (m : Machine) : Type 0 where
+  -- no epoch that a lane has met is of the future
+  pub past : (n slot : ℕ) (l : LaneState) → m.lanes n ≡ Some l → slot < 64
+      → slice_index l.base.known.epochs slot ≤ (deed m.words slot).epoch
   -- what is pending is sealed there
   pub sealed : (n : ℕ) (l : LaneState) (e : Entry) → m.lanes n ≡ Some l → Contains l.base.known.pending.entries e
       → (p : Placed) × (p.offset ≡ e.at) × IsSealedOf m.words n e.key p
@@ -91,6 +94,9 @@ pub record KnowPending (m : Machine) : Type 0 where
       → mark m.words n ≤ p.offset → IsCounting l.base.known k p.offset
   pub met : (n k : ℕ) (l : LaneState) (p : Placed) → OwnsSlot m n (slot_of k) l → IsSealedOf m.words n k p
       → mark m.words n ≤ p.offset → slice_index l.base.known.epochs (slot_of k) ≡ (deed m.words (slot_of k)).epoch
-  -- the last that counts is the key's authority
+  -- the last that counts is the key's authority: of a slot whose deed is Owned, and after a look
   pub last : (n k : ℕ) (l : LaneState) (at : Ref) → 0 < k → HasMet m n (slot_of k) l
       → pending_of l.base.known k ≡ Some at → (at.lane ≡ n) × IsLatestAt m n k at.offset
+  pub looked : (n word : ℕ) (l : LaneState) (at : Ref) → m.lanes n ≡ Some l → look_in l.mode ≡ Some word
+      → (gate m.words n).fenced ≡ false → pending_of l.base.known (key_in l.asked) ≡ Some at
+      → (at.lane ≡ n) × IsLatestAt m n (key_in l.asked) at.offset

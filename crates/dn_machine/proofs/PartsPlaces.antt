@@ -1,0 +1,215 @@
+use Rattle.std.proofs.Common.{ℕ, ◌+◌, ◌<◌, ◌≤◌, ◌≡◌, ◌⊎◌, inl, inr, true, false, List, [], ◌∷◌, ◌++◌, Contains, Option, Some, None, refl, sym, ◌∙◌, ap, subst, arith}
+use Rattle.std.proofs.lemmas.List.Elements.{Contains-append_right}
+use Rattle.dn_word.specs.Ref.{ref_word}
+use Rattle.dn_word.specs.declared.packed.gate.Gate.{Gate}
+use Rattle.dn_act.specs.Words.{word_at}
+use Rattle.dn_record.specs.Grammar.{IsRecord}
+use Rattle.dn_record.specs.Record.{length_in_words, spelling, value_of, key_of as key_of_record}
+use Rattle.dn_record.specs.declared.records.Record.{Record}
+use Rattle.dn_record.specs.declared.records.Record.TheVariants.{Delete}
+use Rattle.dn_hist.specs.Calls.{found_of, key_of}
+use Rattle.dn_hist.specs.declared.calls.Call.{Call}
+use Rattle.dn_hist.specs.declared.calls.Call.TheVariants.{Get}
+use Rattle.dn_hist.specs.declared.calls.Reply.{Reply}
+use Rattle.dn_hist.specs.declared.receipts.SessionView.{SessionView}
+use Rattle.dn_model.specs.Regions.{gate, gate_at, mark, offsets, home_of, IsLane}
+use Rattle.dn_model.specs.Log.{Tiles}
+use Rattle.dn_model.specs.Held.{Found, Says, is_authority}
+use Rattle.dn_model.specs.declared.logs.Placed.{Placed}
+use Rattle.dn_model.proofs.HashLaws.{home_below}
+use Rattle.dn_store.specs.Holding.{holds}
+use Rattle.dn_store.proofs.Holding.{held_is}
+use Rattle.dn_store.proofs.Places.{index_is}
+use Rattle.dn_merge.specs.Merge.{Merging}
+use Rattle.dn_merge.specs.declared.places.MergePlace.{MergePlace}
+use Rattle.dn_merge.specs.declared.places.MergePlace.TheVariants.{Pass}
+use Rattle.dn_plan.specs.declared.phases.ActPhase.TheVariants as phase
+use Rattle.dn_plan.specs.declared.phases.Located.{Located}
+use Rattle.dn_plan.specs.declared.phases.LocatePhase.TheVariants.{Owner}
+use Rattle.dn_plan.specs.declared.phases.Raised.{Raised}
+use Rattle.dn_plan.specs.declared.phases.RoomPhase.TheVariants as rooming
+use Rattle.dn_plan.specs.declared.phases.SealPhase.TheVariants as sealing
+use Rattle.dn_ask.specs.declared.asks.Act.{Act}
+use Rattle.dn_ask.specs.declared.asks.Act.TheVariants as act
+use Rattle.dn_ask.specs.declared.asks.FindRoom.TheVariants as room
+use Rattle.dn_ask.specs.declared.asks.Seal.TheVariants as seal
+use Rattle.dn_services.specs.Staged.{directory_staged, pad_staged, placed}
+use Rattle.dn_services.specs.declared.seals.Seal.{Seal}
+use Rattle.dn_seek.proofs.Seeks.{agreed_held}
+use Rattle.dn_log.specs.Log.{Log, new_segment_of}
+use Rattle.dn_log.specs.declared.plans.Plan.{Plan}
+use Rattle.dn_log.specs.declared.staging.Staged.{Staged}
+use Rattle.dn_lane2.specs.Asked.{call_in}
+use Rattle.dn_lane2.specs.Ends.{reply_in}
+use Rattle.dn_lane2.specs.State.{LaneState}
+use Rattle.dn_lane2.specs.declared.asked.Asked.{Asked}
+use Rattle.dn_lane2.specs.declared.asked.Asked.TheVariants as asked
+use Rattle.dn_lane2.specs.declared.base.Base.{Base}
+use Rattle.dn_lane2.specs.declared.modes.Mode.{Mode}
+use Rattle.dn_lane2.specs.declared.modes.Mode.TheVariants as mode
+use Rattle.dn_owners.specs.Known.{Look}
+use Rattle.dn_owners.proofs.Ats.{none_some, same_some}
+use Rattle.dn_owners.proofs.Logs.{head_has}
+use Rattle.dn_beside.specs.Pool.{Pool, store_in, IsWhole}
+use Rattle.dn_turns.specs.Knows.{KnowsMerge, AtPass}
+use Rattle.dn_reach.specs.Placing.{plan_for, staged_for, placed_by}
+use Rattle.dn_reach.specs.Staging.{AreFlowing}
+use Rattle.dn_reach.specs.OwnLog.{HoldsLog}
+use Rattle.dn_reach.proofs.Grown.{AreThere, all_there, there_left, IsReached, reached}
+use Rattle.dn_reach.proofs.Tiled.{placed_tiled}
+use Rattle.dn_receipts.specs.Sealing.{record_of}
+use Rattle.dn_lanes.specs.Lane.{IsLaneAt}
+use Rattle.dn_lanes.specs.Calls.{IsCalled}
+use Rattle.dn_lanes.specs.Phases.{IsReply, IsReplyTo, KnowsReply, KnowsGate, KnowsActing, Knows, IsSealing, IsAt}
+use Rattle.dn_lanes.proofs.Called.{is_call, call_record, call_key}
+use Rattle.dn_machine.specs.State.{Machine}
+use Rattle.dn_machine.specs.Sound.{IsCallOf, IsMachineAt, IsSound}
+use Rattle.dn_machine.specs.Sealed.{GivesAt, HoldsAt}
+use Rattle.dn_machine.specs.Places.{located_at, located_in, raised_at, raised_in, IsClear, record_in, IsReplyFor, IsSealingIn, IsFollowed, MayPass, KnowPlaces}
+use Rattle.dn_machine.proofs.PartsRead.{by_words, has_sealed}
+
+-- What actors know at their places.
+
+abbrev seen : Pool → Machine → Machine
+seen p m = record m { words = p.words }
+
+-- ---- a lane whose gate has no bit
+lane_of : (p : Pool) (m : Machine) (n : ℕ) (l : LaneState) → IsMachineAt p m → m.lanes n ≡ Some l → IsLane n
+lane_of p m n l h is = let made = h.actors.made n l is in h.actors.numbers n made.0 made.1
+
+knows : (p : Pool) (m : Machine) (n : ℕ) (l : LaneState) → IsMachineAt p m → IsClear (seen p m) n l → Knows p n l.base l.asked l.mode
+knows p m n l h c =
+    (h.know.lanes n l c.runs).knows (ap (λ (g : Gate). g.fenced) (sym (h.whole.represents.table.gates n (lane_of p m n l h c.runs).below)) ∙ c.clear)
+
+-- ---- its gate
+gate_by : (p : Pool) (n : ℕ) (found r : Raised) → KnowsGate p n found → Some found ≡ Some r → word_at p.words (gate_at n) ≡ r.gate
+gate_by p n found r h e = h ∙ ap (λ (x : Raised). x.gate) (same_some found r e)
+
+acting_gate : (p : Pool) (n : ℕ) (a : Asked) (w : Act) (r : Raised) → KnowsActing p n a w → raised_at w ≡ Some r → word_at p.words (gate_at n) ≡ r.gate
+acting_gate p n a (act.Call phase.Look) r h e = absurd (none_some r e)
+acting_gate p n a (act.Call (phase.Gate look located)) r h e = absurd (none_some r e)
+acting_gate p n a (act.Call (phase.Raise x)) r h e = gate_by p n x r h.0 e
+acting_gate p n a (act.Task phase) r h e = absurd (none_some r e)
+
+gate_known : (p : Pool) (n : ℕ) (g : Base) (a : Asked) (w : Mode) (r : Raised) → Knows p n g a w → raised_in w ≡ Some r → word_at p.words (gate_at n) ≡ r.gate
+gate_known p n g a mode.Idle r h e = absurd (none_some r e)
+gate_known p n g a (mode.Acting wait) r h e = acting_gate p n a wait r h e
+gate_known p n g a (mode.Finding wait find) r h e = absurd (none_some r e)
+gate_known p n g a (mode.Claiming (room.Call (rooming.Write x)) claim) r h e = gate_by p n x r h e
+gate_known p n g a (mode.Claiming (room.Task phase) claim) r h e = absurd (none_some r e)
+gate_known p n g a (mode.Sealing (seal.Call (sealing.Write x)) s) r h e = gate_by p n x r h.0 e
+gate_known p n g a (mode.Sealing (seal.Task phase) s) r h e = absurd (none_some r e)
+
+-- ---- its reply
+reply_by : (p : Pool) (a : Asked) (found located : Located) → KnowsReply p a found.held → Some found ≡ Some located → KnowsReply p a located.held
+reply_by p a found located h e = subst (λ (x : Located). KnowsReply p a x.held) (same_some found located e) h
+
+acting_reply : (p : Pool) (n : ℕ) (a : Asked) (w : Act) (located : Located) → KnowsActing p n a w → located_at w ≡ Some located → KnowsReply p a located.held
+acting_reply p n a (act.Call phase.Look) located h e = absurd (none_some located e)
+acting_reply p n a (act.Call (phase.Gate look found)) located h e = reply_by p a found located h e
+acting_reply p n a (act.Call (phase.Raise x)) located h e = reply_by p a x.located located h.1 e
+acting_reply p n a (act.Task phase) located h e = absurd (none_some located e)
+
+reply_known : (p : Pool) (n : ℕ) (g : Base) (a : Asked) (w : Mode) (located : Located) → Knows p n g a w → located_in w ≡ Some located → KnowsReply p a located.held
+reply_known p n g a mode.Idle located h e = absurd (none_some located e)
+reply_known p n g a (mode.Acting wait) located h e = acting_reply p n a wait located h e
+reply_known p n g a (mode.Finding wait find) located h e = absurd (none_some located e)
+reply_known p n g a (mode.Claiming wait claim) located h e = absurd (none_some located e)
+reply_known p n g a (mode.Sealing wait s) located h e = absurd (none_some located e)
+
+same_said : (a b : Option (List ℕ)) → (let x : Found (Option (List ℕ)) = Says a in x) ≡ Says b → a ≡ b
+same_said a b e = cc
+
+reply_at : (p : Pool) (m : Machine) (key : ℕ) (reply : Reply) → IsMachineAt p m → 0 < key → IsReply p key reply → IsReplyFor p.words key reply
+reply_at p m key reply h pos i =
+    let there : holds (store_in p) key ≡ Says (h.receipts.held key) = h.receipts.there key pos in
+    let same : value_of i.of ≡ h.receipts.held key = same_said (value_of i.of) (h.receipts.held key) (sym (agreed_held (store_in p) key i.of i.of_key i.plain i.agrees) ∙ there) in
+    record {
+      value = h.receipts.held key;
+      held = record {
+        logs = (store_in p).logs;
+        chains = p.chains;
+        reads = h.whole.represents.reads;
+        is = held_is p.words p.chains (store_in p) key pos h.whole.represents ∙ there;
+      };
+      says = i.says ∙ ap found_of same;
+    }
+
+reply_for : (p : Pool) (m : Machine) (n key : ℕ) (l : LaneState) (view : SessionView) (value : List ℕ) (located : Located) → IsMachineAt p m → IsClear (seen p m) n l → l.asked ≡ asked.Call (Get key) view value → located_in l.mode ≡ Some located
+    → IsReplyFor p.words key (reply_in (Get key) value located.held)
+reply_for p m n key l view value located h c e f =
+    let P : Asked → Type 0 = λ a. KnowsReply p a located.held in
+    let Q : Asked → Type 0 = λ a. IsCallOf m.callers a in
+    let call = subst Q e (h.actors.calls n l c.runs) in
+    let pos : 0 < key = omega (arith, call.1) in
+    reply_at p m key (reply_in (Get key) value located.held) h pos (subst P e (reply_known p n l.base l.asked l.mode located (knows p m n l h c) f))
+
+-- ---- the record that it seals
+spelled_by : (p : Pool) (n : ℕ) (log : Log) (r : Record) (k : ℕ) → HoldsLog p n log → IsRecord r → key_of_record r ≡ Some k → (plan_for log r).need_segment ≡ false → AreFlowing p.words [] (staged_for log r)
+    → Tiles (offsets p.words n) log.len (placed_by (plan_for log r) r) (plan_for log r).len
+spelled_by p n log r k own s e room flowed =
+    let plan : Plan = plan_for log r in
+    let there : AreThere p.words (staged_for log r) = all_there p.words (staged_for log r) flowed in
+    let reach : IsReached p.words log plan = reached p.words log (length_in_words r) own.directory room
+    (there_left p.words (directory_staged log (new_segment_of log plan)) (pad_staged log plan.pad ++ placed log plan.at (spelling r)) there) in
+    let TilesAt : ℕ → Type 0 = λ i. Tiles (offsets p.words i) log.len (placed_by plan r) plan.len in
+    subst TilesAt own.lane (placed_tiled p.words log r k reach.segments reach.spare s e reach.grows there)
+
+sealing_at : (p : Pool) (n : ℕ) (g : Base) (a : Asked) (r : Raised) (s : Seal) (found : Option Look) → HoldsLog p n g.known.log → IsSealing found n g a r s → AreFlowing p.words g.staging (staged_for g.known.log (record_of (call_in a))) → g.staging ≡ []
+    → Tiles (offsets p.words n) g.known.log.len (placed_by (plan_for g.known.log (record_of (call_in a))) (record_of (call_in a))) (plan_for g.known.log (record_of (call_in a))).len
+sealing_at p n g a r s found own i flowing none =
+    let call : Call = call_in a in
+    let P : List Staged → Type 0 = λ xs. AreFlowing p.words xs (staged_for g.known.log (record_of call)) in
+    spelled_by p n g.known.log (record_of call) (key_of call) own (call_record call (is_call a i.raised.look.called)) (call_key call) i.room (subst P none flowing)
+
+seals_at : (p : Pool) (m : Machine) (n : ℕ) (l : LaneState) (r : Raised) (s : Seal) → IsMachineAt p m → IsClear (seen p m) n l → l.mode ≡ mode.Sealing (seal.Call (sealing.Write r)) s → IsSealingIn p.words n l
+seals_at p m n l r s h c e =
+    let at : IsLaneAt n l p = h.know.lanes n l c.runs in
+    let P : Mode → Type 0 = λ w. IsAt (p.owners.knows n).look n l.base l.asked w in
+    let Q : Mode → Type 0 = λ w. Knows p n l.base l.asked w in
+    let flowing = (subst Q e (knows p m n l h c)).1 in
+    record {
+      flowing = flowing;
+      spelled = λ none. sealing_at p n l.base l.asked r s (p.owners.knows n).look at.log (subst P e at.at) flowing none;
+    }
+
+-- ---- mergers
+gives : (p : Pool) (k : ℕ) (place : Option ℕ) → IsWhole p → 0 < k → (store_in p).index k ≡ place → GivesAt p.words k place
+gives p k place h pos e = record {
+  overflow = p.chains (home_of k);
+  chain = h.represents.reads.chains_are (home_of k) (home_below k);
+  is = index_is p.words p.chains k ((store_in p).index k) (h.represents.indexed.stands k pos) ∙ e;
+}
+
+may_pass : (p : Pool) (n to : ℕ) → IsWhole p → IsLane n → AtPass n p to → MayPass p.words n to
+may_pass p n to h l a =
+    let w = a.works in
+    let P : List Placed → Type 0 = λ log. Contains log w.of in
+    let at : w.of.offset ≡ mark p.words n = w.at ∙ sym w.mark_is ∙ sym (h.represents.table.marks n l.below) in
+    record {
+      p = w.of;
+      sealed = has_sealed p n w.of h (subst P (sym w.log) (Contains-append_right w.before (w.of ∷ w.after) w.of (head_has w.of w.after)));
+      at = at;
+      past = a.to_is ∙ ap (λ o. o + length_in_words w.of.entry) (sym w.at);
+      followed = λ k pos auth. elim (a.follows k auth) [
+        | inl e ↦ inl (gives p k (Some (ref_word (record { lane = n; offset = w.of.offset }))) h pos (e ∙ ap (λ o. Some (ref_word (record { lane = n; offset = o }))) (sym w.at)))
+        | inr f ↦ inr (gives p k None h pos f.0, f.1)
+      ];
+    }
+
+passes_at : (p : Pool) (m : Machine) (n to : ℕ) (x : Merging) → IsMachineAt p m → m.mergers n ≡ Some x → x.place ≡ Pass to → MayPass p.words n to
+passes_at p m n to x h is e =
+    let P : MergePlace → Type 0 = λ w. KnowsMerge n p w in
+    may_pass p n to h.whole (h.actors.numbers n x is) (subst P e (h.know.mergers n x is).knows)
+
+-- ---- all of them
+places_at : (p : Pool) (m : Machine) → IsMachineAt p m → KnowPlaces (seen p m)
+places_at p m h = record {
+  gates = λ n l r c e. gate_known p n l.base l.asked l.mode r (knows p m n l h c) e;
+  replies = λ n key l view value located c e f. reply_for p m n key l view value located h c e f;
+  seals = λ n l r s c e. seals_at p m n l r s h c e;
+  passes = λ n to x is e. passes_at p m n to x h is e;
+}
+
+pub know_places : (segments : ℕ) (m : Machine) → IsSound segments m → KnowPlaces m
+know_places segments m h = by_words KnowPlaces h.p m h.at.words (places_at h.p m h.at)
