@@ -17,3 +17,4 @@ pub mod PartsPending
 pub mod PartsOwning
 pub mod PartsStamps
 pub mod PartsPlaces
+pub mod PartsWalking

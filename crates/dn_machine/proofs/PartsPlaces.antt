@@ -70,14 +70,14 @@ use Rattle.dn_machine.proofs.PartsRead.{by_words, has_sealed}
 
 -- What actors know at their places.
 
-abbrev seen : Pool → Machine → Machine
+abbrev pub seen : Pool → Machine → Machine
 seen p m = record m { words = p.words }
 
 -- ---- a lane whose gate has no bit
 lane_of : (p : Pool) (m : Machine) (n : ℕ) (l : LaneState) → IsMachineAt p m → m.lanes n ≡ Some l → IsLane n
 lane_of p m n l h is = let made = h.actors.made n l is in h.actors.numbers n made.0 made.1
 
-knows : (p : Pool) (m : Machine) (n : ℕ) (l : LaneState) → IsMachineAt p m → IsClear (seen p m) n l → Knows p n l.base l.asked l.mode
+pub knows : (p : Pool) (m : Machine) (n : ℕ) (l : LaneState) → IsMachineAt p m → IsClear (seen p m) n l → Knows p n l.base l.asked l.mode
 knows p m n l h c =
     (h.know.lanes n l c.runs).knows (ap (λ (g : Gate). g.fenced) (sym (h.whole.represents.table.gates n (lane_of p m n l h c.runs).below)) ∙ c.clear)
 

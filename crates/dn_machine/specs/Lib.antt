@@ -10,4 +10,5 @@ pub mod Indexed
 pub mod Owning
 pub mod Stamps
 pub mod Places
+pub mod Walking
 pub mod Cells

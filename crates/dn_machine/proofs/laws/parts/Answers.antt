@@ -4,6 +4,7 @@ use Rattle.dn_machine.proofs.PartsIndex.{has_index}
 use Rattle.dn_machine.proofs.PartsOwning.{in_one_log, hold_looks, know_pending}
 use Rattle.dn_machine.proofs.PartsStamps.{are_bound, grants_in_order}
 use Rattle.dn_machine.proofs.PartsPlaces.{know_places}
+use Rattle.dn_machine.proofs.PartsWalking.{know_walks}
 use Rattle.dn_machine.proofs.PartsCells.{has_cells}
 use Rattle.dn_machine.proofs.laws.parts.Goals as goal
 
@@ -33,6 +34,9 @@ returns-clause-grants c = grants_in_order
 
 pub returns-clause-places : goal.returns-clause-places
 returns-clause-places c = know_places
+
+pub returns-clause-walks : goal.returns-clause-walks
+returns-clause-walks c = know_walks
 
 pub returns-clause-cells : goal.returns-clause-cells
 returns-clause-cells c = has_cells
