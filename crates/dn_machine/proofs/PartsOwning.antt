@@ -49,14 +49,11 @@ use Rattle.dn_lanes.specs.Phases.{IsActing, IsAt}
 use Rattle.dn_machine.specs.State.{Machine}
 use Rattle.dn_machine.specs.Sound.{IsMachineAt, IsSound}
 use Rattle.dn_machine.specs.Sealed.{IsSealedOf}
-use Rattle.dn_machine.specs.Owning.{IsInOneLog, looked_at, look_in, HoldLooks, OwnsSlot, HasMet, IsLatestAt, KnowPending}
-use Rattle.dn_machine.proofs.PartsRead.{by_words, sealed_has, has_sealed, deed_is}
+use Rattle.dn_machine.specs.Owning.{IsInOneLog, IsClear, looked_at, look_in, HoldLooks, OwnsSlot, HasMet, IsLatestAt, KnowPending}
+use Rattle.dn_machine.proofs.PartsRead.{by_words, seen, is_clear, sealed_has, has_sealed, deed_is}
 use Rattle.dn_machine.proofs.PartsPending.{entry_has, has_entry, pending_has, has_pending}
 
 -- Owners, as a reader of words and lanes finds them.
-
-abbrev seen : Pool → Machine → Machine
-seen p m = record m { words = p.words }
 
 -- ---- one log
 -- it isn't merged by the words
@@ -71,13 +68,6 @@ one_at p m h = record {
 
 pub in_one_log : (segments : ℕ) (m : Machine) → IsSound segments m → IsInOneLog m
 in_one_log segments m h = by_words IsInOneLog h.p m h.at.words (one_at h.p m h.at)
-
--- ---- lanes
-lane_of : (p : Pool) (m : Machine) (n : ℕ) (l : LaneState) → IsMachineAt p m → m.lanes n ≡ Some l → IsLane n
-lane_of p m n l h is = let made = h.actors.made n l is in h.actors.numbers n made.0 made.1
-
-is_clear : (p : Pool) (m : Machine) (n : ℕ) (l : LaneState) → IsMachineAt p m → m.lanes n ≡ Some l → (gate p.words n).fenced ≡ false → ((store_in p).gates n).fenced ≡ false
-is_clear p m n l h is e = ap (λ (g : Gate). g.fenced) (sym (h.whole.represents.table.gates n (lane_of p m n l h is).below)) ∙ e
 
 -- ---- after a look
 record HasLooked (found : Option Look) (a : Asked) (word : ℕ) : Type 0 where
@@ -108,11 +98,11 @@ looked_by p m n word l h is e = look_of (p.owners.knows n).look n l.base l.asked
 
 looks_at : (p : Pool) (m : Machine) → IsMachineAt p m → HoldLooks (seen p m)
 looks_at p m h = record {
-  each = λ n word l is e clear.
+  each = λ n word l c e.
       let key : ℕ = key_in l.asked in
       let look : Look = look_by (slot_of key) word in
       let P : Deed → Type 0 = λ d. IsHeld d n look in
-      subst P (sym (deed_is p key h.whole)) ((h.whole.sound.looks n).held look (looked_by p m n word l h is e).look (is_clear p m n l h is clear));
+      subst P (sym (deed_is p key h.whole)) ((h.whole.sound.looks n).held look (looked_by p m n word l h c.runs e).look (is_clear p m n l h c));
 }
 
 pub hold_looks : (segments : ℕ) (m : Machine) → IsSound segments m → HoldLooks m
@@ -136,8 +126,8 @@ entry_is p n k e h l c =
 
 owns_by : (p : Pool) (m : Machine) (n k : ℕ) (l : LaneState) → IsMachineAt p m → OwnsSlot (seen p m) n (slot_of k) l → Owns (p.owners.knows n).running ((store_in p).gates n) ((store_in p).deeds (slot_of k)) n
 owns_by p m n k l h o = record {
-  is_running = (h.know.lanes n l o.runs).learns.running;
-  unfenced = is_clear p m n l h o.runs o.clear;
+  is_running = (h.know.lanes n l o.clear.runs).learns.running;
+  unfenced = is_clear p m n l h o.clear;
   names = ap (λ (d : Deed). d.lane) (sym (deed_is p k h.whole)) ∙ o.names;
 }
 
@@ -149,7 +139,7 @@ record IsLearntNow (p : Pool) (n key : ℕ) (k : KnownState) : Type 0 where
 now_by : (p : Pool) (m : Machine) (n k : ℕ) (l : LaneState) (c : Learnt) → IsMachineAt p m → OwnsSlot (seen p m) n (slot_of k) l → (p.owners.knows n).learnt (slot_of k) ≡ Some c
     → c.epoch ≡ ((store_in p).deeds (slot_of k)).epoch → IsLearntNow p n k l.base.known
 now_by p m n k l c h o is e =
-    let met = (h.know.lanes n l o.runs).learns.met (slot_of k) (slot_below k) in
+    let met = (h.know.lanes n l o.clear.runs).learns.met (slot_of k) (slot_below k) in
     let same : (c.epoch ≡ slice_index l.base.known.epochs (slot_of k)) × (c.from ≡ slice_index l.base.known.counts (slot_of k)) = elim (met.older c is) [
       | inl less ↦ absurd (omega (arith, less, met.upto, e))
       | inr same ↦ same
@@ -173,7 +163,7 @@ counted p m n k l x h o s le =
 counts_at : (p : Pool) (m : Machine) (n k : ℕ) (l : LaneState) (x : Placed) → IsMachineAt p m → OwnsSlot (seen p m) n (slot_of k) l → IsSealedOf p.words n k x → mark p.words n ≤ x.offset → IsCounting l.base.known k x.offset
 counts_at p m n k l x h o s le =
     let c : IsCounted p n k x l.base.known = counted p m n k l x h o s le in
-    let learns = (h.know.lanes n l o.runs).learns in
+    let learns = (h.know.lanes n l o.clear.runs).learns in
     let past : (p.owners.knows n).dropped ≤ x.offset = omega (arith, (h.whole.sound.pending n).low learns.running, not_merged p n k x h.whole s le) in
     let P : List Pending → Type 0 = λ qs. Contains {X = Pending} qs (record { key = k; offset = x.offset }) in
     record {
@@ -219,7 +209,7 @@ last_at : (p : Pool) (m : Machine) (n k : ℕ) (l : LaneState) (at : Ref) → Is
     → (at.lane ≡ n) × IsLatestAt (seen p m) n k at.offset
 last_at p m n k l at h pos o e =
     let known : KnownState = l.base.known in
-    let lane : IsLaneAt n l p = h.know.lanes n l o.owns.runs in
+    let lane : IsLaneAt n l p = h.know.lanes n l o.owns.clear.runs in
     let d = deed_is p k h.whole in
     let c = (lane.learns.met (slot_of k) (slot_below k)).owner (ap (λ (x : Deed). x.state) (sym d) ∙ o.state) (owns_by p m n k l h o.owns).names (o.epoch ∙ ap (λ (x : Deed). x.epoch) d) in
     let i : IsNow p n k known = (now_by p m n k l c.0 h o.owns c.1 (c.2 ∙ o.epoch ∙ ap (λ (x : Deed). x.epoch) d)).now in
@@ -229,21 +219,21 @@ last_at p m n k l at h pos o e =
     (place_lane known counting at e ∙ lane.log.lane, latest p m n k r.of (counted_at k at.offset) h pos r)
 
 -- and after a look
-looked_at_last : (p : Pool) (m : Machine) (n word : ℕ) (l : LaneState) (at : Ref) → IsMachineAt p m → m.lanes n ≡ Some l → look_in l.mode ≡ Some word → (gate p.words n).fenced ≡ false → pending_of l.base.known (key_in l.asked) ≡ Some at
+looked_at_last : (p : Pool) (m : Machine) (n word : ℕ) (l : LaneState) (at : Ref) → IsMachineAt p m → IsClear (seen p m) n l → look_in l.mode ≡ Some word → pending_of l.base.known (key_in l.asked) ≡ Some at
     → (at.lane ≡ n) × IsLatestAt (seen p m) n (key_in l.asked) at.offset
-looked_at_last p m n word l at h is e clear f =
+looked_at_last p m n word l at h c e f =
     let key : ℕ = key_in l.asked in
-    let lane : IsLaneAt n l p = h.know.lanes n l is in
-    let look = looked_by p m n word l h is e in
+    let lane : IsLaneAt n l p = h.know.lanes n l c.runs in
+    let look = looked_by p m n word l h c.runs e in
     let i : IsPendingAt p n key at = pending_is p n key l.base.known at h.whole (slot_below key) lane.log.lane
-    (record { learns = lane.learns; look = look_by (slot_of key) word; looks = look.look; slot = refl; clear = is_clear p m n l h is clear }) f in
+    (record { learns = lane.learns; look = look_by (slot_of key) word; looks = look.look; slot = refl; clear = is_clear p m n l h c }) f in
     let P : ℕ → Type 0 = λ o. IsLatestAt (seen p m) n key o in
     (i.lane, subst P (sym i.offset) (latest p m n key i.of.of i.q h (positive l.asked look.called) i.of))
 
 pending_at : (p : Pool) (m : Machine) → IsMachineAt p m → KnowPending (seen p m)
 pending_at p m h = record {
   past = λ n t l is lt. omega (arith, ((h.know.lanes n l is).learns.met t lt).upto, ap (λ (d : Deed). d.epoch) (h.whole.represents.table.deeds t lt));
-  looked = λ n word l at is e clear f. looked_at_last p m n word l at h is e clear f;
+  looked = λ n word l at c e f. looked_at_last p m n word l at h c e f;
   sealed = λ n l e is c. let f = entry_is p n l.base.known e h.whole (h.know.lanes n l is).learns c in (f.x, f.at, f.of);
   counts = λ n k l x o s le. counts_at p m n k l x h o s le;
   met = λ n k l x o s le. (counted p m n k l x h o s le).learnt.epoch;

@@ -1,85 +1,86 @@
 use Rattle.std.proofs.Common.{ℕ, ◌+◌, ◌<◌, ◌≤◌, ◌≡◌, ◌⊎◌, inl, inr, true, false, List, [], ◌∷◌, ◌++◌, Contains, Option, Some, None, refl, sym, ◌∙◌, ap, subst, arith}
 use Rattle.std.proofs.lemmas.List.Elements.{Contains-append_right}
-use Rattle.dn_word.specs.Ref.{ref_word}
-use Rattle.dn_word.specs.declared.packed.gate.Gate.{Gate}
 use Rattle.dn_act.specs.Words.{word_at}
-use Rattle.dn_record.specs.Grammar.{IsRecord}
-use Rattle.dn_record.specs.Record.{length_in_words, spelling, value_of, key_of as key_of_record}
-use Rattle.dn_record.specs.declared.records.Record.{Record}
-use Rattle.dn_record.specs.declared.records.Record.TheVariants.{Delete}
+use Rattle.dn_ask.specs.Ask.{wish_in}
+use Rattle.dn_ask.specs.declared.asks.Act.{Act}
+use Rattle.dn_beside.specs.Pool.{Pool, store_in, IsWhole}
 use Rattle.dn_hist.specs.Calls.{found_of, key_of}
 use Rattle.dn_hist.specs.declared.calls.Call.{Call}
 use Rattle.dn_hist.specs.declared.calls.Call.TheVariants.{Get}
 use Rattle.dn_hist.specs.declared.calls.Reply.{Reply}
 use Rattle.dn_hist.specs.declared.receipts.SessionView.{SessionView}
-use Rattle.dn_model.specs.Regions.{gate, gate_at, mark, offsets, home_of, IsLane}
-use Rattle.dn_model.specs.Log.{Tiles}
-use Rattle.dn_model.specs.Held.{Found, Says, is_authority}
-use Rattle.dn_model.specs.declared.logs.Placed.{Placed}
-use Rattle.dn_model.proofs.HashLaws.{home_below}
-use Rattle.dn_store.specs.Holding.{holds}
-use Rattle.dn_store.proofs.Holding.{held_is}
-use Rattle.dn_store.proofs.Places.{index_is}
-use Rattle.dn_merge.specs.Merge.{Merging}
-use Rattle.dn_merge.specs.declared.places.MergePlace.{MergePlace}
-use Rattle.dn_merge.specs.declared.places.MergePlace.TheVariants.{Pass}
-use Rattle.dn_plan.specs.declared.phases.ActPhase.TheVariants as phase
-use Rattle.dn_plan.specs.declared.phases.Located.{Located}
-use Rattle.dn_plan.specs.declared.phases.LocatePhase.TheVariants.{Owner}
-use Rattle.dn_plan.specs.declared.phases.Raised.{Raised}
-use Rattle.dn_plan.specs.declared.phases.RoomPhase.TheVariants as rooming
-use Rattle.dn_plan.specs.declared.phases.SealPhase.TheVariants as sealing
-use Rattle.dn_ask.specs.declared.asks.Act.{Act}
-use Rattle.dn_ask.specs.declared.asks.Act.TheVariants as act
-use Rattle.dn_ask.specs.declared.asks.FindRoom.TheVariants as room
-use Rattle.dn_ask.specs.declared.asks.Seal.TheVariants as seal
-use Rattle.dn_services.specs.Staged.{directory_staged, pad_staged, placed}
-use Rattle.dn_services.specs.declared.seals.Seal.{Seal}
-use Rattle.dn_seek.proofs.Seeks.{agreed_held}
-use Rattle.dn_log.specs.Log.{Log, new_segment_of}
-use Rattle.dn_log.specs.declared.plans.Plan.{Plan}
-use Rattle.dn_log.specs.declared.staging.Staged.{Staged}
-use Rattle.dn_lane2.specs.Asked.{call_in}
+use Rattle.dn_index.specs.Walk.{Walking}
+use Rattle.dn_lane2.specs.Asked.{call_in, brief_of}
 use Rattle.dn_lane2.specs.Ends.{reply_in}
 use Rattle.dn_lane2.specs.State.{LaneState}
 use Rattle.dn_lane2.specs.declared.asked.Asked.{Asked}
-use Rattle.dn_lane2.specs.declared.asked.Asked.TheVariants as asked
 use Rattle.dn_lane2.specs.declared.base.Base.{Base}
 use Rattle.dn_lane2.specs.declared.modes.Mode.{Mode}
-use Rattle.dn_lane2.specs.declared.modes.Mode.TheVariants as mode
-use Rattle.dn_owners.specs.Known.{Look}
+use Rattle.dn_lanes.proofs.Called.{is_call, call_record, call_key, positive}
+use Rattle.dn_lanes.specs.Calls.{IsCalled, key_in}
+use Rattle.dn_lanes.specs.Lane.{IsLaneAt}
+use Rattle.dn_lanes.specs.Phases.{IsReply, IsReplyTo, KnowsReply, KnowsGate, KnowsActing, Knows, IsSealing, IsAt}
+use Rattle.dn_log.specs.Log.{Log, new_segment_of}
+use Rattle.dn_log.specs.declared.plans.Plan.{Plan}
+use Rattle.dn_log.specs.declared.staging.Staged.{Staged}
+use Rattle.dn_machine.proofs.PartsRead.{by_words, seen, is_clear, sealed_has, has_sealed, IsRecordAt, record_found}
+use Rattle.dn_machine.proofs.PartsWalking.{has_walked, lane_behind}
+use Rattle.dn_machine.specs.Owning.{IsClear, IsLatestAt}
+use Rattle.dn_machine.specs.Places.{located_at, located_in, raised_at, raised_in, record_in, IsReplyFor, IsSealingIn, AllMerged, KnowPlaces}
+use Rattle.dn_machine.specs.Sealed.{HoldsAt}
+use Rattle.dn_machine.specs.Sound.{IsCallOf, IsMachineAt, IsSound}
+use Rattle.dn_machine.specs.State.{Machine}
+use Rattle.dn_machine.specs.Walking.{IsBehind, HasWalked}
+use Rattle.dn_model.proofs.HashLaws.{home_below}
+use Rattle.dn_model.specs.Held.{Found, Says, is_authority, entry_at}
+use Rattle.dn_model.specs.Log.{Tiles}
+use Rattle.dn_model.specs.Regions.{gate, gate_at, mark, offsets, home_of, IsLane, slot_of}
+use Rattle.dn_model.specs.declared.logs.Placed.{Placed}
 use Rattle.dn_owners.proofs.Ats.{none_some, same_some}
+use Rattle.dn_owners.proofs.Last.{none_found}
 use Rattle.dn_owners.proofs.Logs.{head_has}
-use Rattle.dn_beside.specs.Pool.{Pool, store_in, IsWhole}
-use Rattle.dn_turns.specs.Knows.{KnowsMerge, AtPass}
-use Rattle.dn_reach.specs.Placing.{plan_for, staged_for, placed_by}
-use Rattle.dn_reach.specs.Staging.{AreFlowing}
-use Rattle.dn_reach.specs.OwnLog.{HoldsLog}
+use Rattle.dn_owners.specs.Known.{Look}
+use Rattle.dn_owners.specs.Sound.{Agrees}
+use Rattle.dn_plan.specs.declared.phases.LocatePhase.TheVariants.{Owner}
+use Rattle.dn_plan.specs.declared.phases.Located.{Located}
+use Rattle.dn_plan.specs.declared.phases.Raised.{Raised}
+use Rattle.dn_plan.specs.declared.phases.Way.{Way}
 use Rattle.dn_reach.proofs.Grown.{AreThere, all_there, there_left, IsReached, reached}
 use Rattle.dn_reach.proofs.Tiled.{placed_tiled}
+use Rattle.dn_reach.specs.OwnLog.{HoldsLog}
+use Rattle.dn_reach.specs.Placing.{plan_for, staged_for, placed_by}
+use Rattle.dn_reach.specs.Staging.{AreFlowing}
 use Rattle.dn_receipts.specs.Sealing.{record_of}
-use Rattle.dn_lanes.specs.Lane.{IsLaneAt}
-use Rattle.dn_lanes.specs.Calls.{IsCalled}
-use Rattle.dn_lanes.specs.Phases.{IsReply, IsReplyTo, KnowsReply, KnowsGate, KnowsActing, Knows, IsSealing, IsAt}
-use Rattle.dn_lanes.proofs.Called.{is_call, call_record, call_key}
-use Rattle.dn_machine.specs.State.{Machine}
-use Rattle.dn_machine.specs.Sound.{IsCallOf, IsMachineAt, IsSound}
-use Rattle.dn_machine.specs.Sealed.{GivesAt, HoldsAt}
-use Rattle.dn_machine.specs.Places.{located_at, located_in, raised_at, raised_in, IsClear, record_in, IsReplyFor, IsSealingIn, IsFollowed, MayPass, KnowPlaces}
-use Rattle.dn_machine.proofs.PartsRead.{by_words, has_sealed}
+use Rattle.dn_record.specs.Grammar.{IsRecord}
+use Rattle.dn_record.specs.Record.{length_in_words, spelling, value_of, key_of as key_of_record}
+use Rattle.dn_record.specs.declared.records.Record.{Record}
+use Rattle.dn_record.specs.declared.records.Record.TheVariants.{Delete}
+use Rattle.dn_seek.proofs.Seeks.{agreed_held}
+use Rattle.dn_seek.specs.Seeking.{KnowsWalk as KnowsIndexed, KnowsRecord}
+use Rattle.dn_services.specs.Staged.{directory_staged, pad_staged, placed}
+use Rattle.dn_services.specs.declared.seals.Seal.{Seal}
+use Rattle.dn_store.proofs.Holding.{held_is, authority_is}
+use Rattle.dn_store.specs.Holding.{holds, authority_in, waiting}
+use Rattle.dn_store.specs.Standing.{Stands}
+use Rattle.dn_word.specs.Ref.{ref_word}
+use Rattle.dn_word.specs.declared.packed.gate.Gate.{Gate}
+use Rattle.dn_word.specs.declared.packed.place.Ref.{Ref}
+use Rattle.dn_plan.specs.declared.phases.ActPhase.TheVariants as phase
+use Rattle.dn_plan.specs.declared.phases.RoomPhase.TheVariants as rooming
+use Rattle.dn_plan.specs.declared.phases.SealPhase.TheVariants as sealing
+use Rattle.dn_ask.specs.declared.asks.Act.TheVariants as act
+use Rattle.dn_ask.specs.declared.asks.FindRoom.TheVariants as room
+use Rattle.dn_ask.specs.declared.asks.Seal.TheVariants as seal
+use Rattle.dn_lane2.specs.declared.asked.Asked.TheVariants as asked
+use Rattle.dn_lane2.specs.declared.modes.Mode.TheVariants as mode
+use Rattle.dn_find.specs.declared.finds.Find.TheVariants as find
+use Rattle.dn_ask.specs.declared.asks.Locate.TheVariants as locate
 
--- What actors know at their places.
+-- What a lane knows at the phases of its call.
 
-abbrev pub seen : Pool → Machine → Machine
-seen p m = record m { words = p.words }
-
--- ---- a lane whose gate has no bit
-lane_of : (p : Pool) (m : Machine) (n : ℕ) (l : LaneState) → IsMachineAt p m → m.lanes n ≡ Some l → IsLane n
-lane_of p m n l h is = let made = h.actors.made n l is in h.actors.numbers n made.0 made.1
-
-pub knows : (p : Pool) (m : Machine) (n : ℕ) (l : LaneState) → IsMachineAt p m → IsClear (seen p m) n l → Knows p n l.base l.asked l.mode
-knows p m n l h c =
-    (h.know.lanes n l c.runs).knows (ap (λ (g : Gate). g.fenced) (sym (h.whole.represents.table.gates n (lane_of p m n l h c.runs).below)) ∙ c.clear)
+-- ---- while its gate has no bit
+knows : (p : Pool) (m : Machine) (n : ℕ) (l : LaneState) → IsMachineAt p m → IsClear (seen p m) n l → Knows p n l.base l.asked l.mode
+knows p m n l h c = (h.know.lanes n l c.runs).knows (is_clear p m n l h c)
 
 -- ---- its gate
 gate_by : (p : Pool) (n : ℕ) (found r : Raised) → KnowsGate p n found → Some found ≡ Some r → word_at p.words (gate_at n) ≡ r.gate
@@ -173,34 +174,55 @@ seals_at p m n l r s h c e =
       spelled = λ none. sealing_at p n l.base l.asked r s (p.owners.knows n).look at.log (subst P e at.at) flowing none;
     }
 
--- ---- mergers
-gives : (p : Pool) (k : ℕ) (place : Option ℕ) → IsWhole p → 0 < k → (store_in p).index k ≡ place → GivesAt p.words k place
-gives p k place h pos e = record {
-  overflow = p.chains (home_of k);
-  chain = h.represents.reads.chains_are (home_of k) (home_below k);
-  is = index_is p.words p.chains k ((store_in p).index k) (h.represents.indexed.stands k pos) ∙ e;
-}
+-- ---- the index
+all_merged : (p : Pool) (n k : ℕ) → IsWhole p → ((store_in p).deeds (slot_of k)).lane ≡ n → waiting (store_in p) n k ≡ None → AllMerged p.words k
+all_merged p n k h owner none j x s le =
+    let has = sealed_has p j x h s.sealed in
+    let past : (store_in p).marks j ≤ x.offset = omega (arith, le, h.represents.table.marks j s.sealed.lane.below) in
+    let same : j ≡ n = sym (h.sound.one.each j k x has past s.authority) ∙ owner in
+    let P : ℕ → Type 0 = λ i. waiting (store_in p) i k ≡ None in
+    none_found k ((store_in p).marks j) ((store_in p).logs j) x (subst P (sym same) none) (record { has = has; from = past; authority = s.authority })
 
-may_pass : (p : Pool) (n to : ℕ) → IsWhole p → IsLane n → AtPass n p to → MayPass p.words n to
-may_pass p n to h l a =
-    let w = a.works in
-    let P : List Placed → Type 0 = λ log. Contains log w.of in
-    let at : w.of.offset ≡ mark p.words n = w.at ∙ sym w.mark_is ∙ sym (h.represents.table.marks n l.below) in
+lane_walks : (p : Pool) (m : Machine) (n look : ℕ) (l : LaneState) (w : Walking) → IsMachineAt p m → IsClear (seen p m) n l → l.mode ≡ mode.Finding (locate.Call (Owner look)) (find.Walk w)
+    → (w.key ≡ key_in l.asked) × HasWalked p.words w × AllMerged p.words w.key
+lane_walks p m n look l w h c e =
+    let P : Mode → Type 0 = λ y. Knows p n l.base l.asked y in
+    let x : KnowsIndexed p n (key_in l.asked) l.base.fetch w = subst P e (knows p m n l h c) in
+    let Q : ℕ → Type 0 = λ k. IsBehind p.words p.chains k w.place in
+    let R : ℕ → Type 0 = λ k. AllMerged p.words k in (
+      x.key_is,
+      has_walked p w h.whole (subst Q (sym x.key_is) (lane_behind p.words p.chains (key_in l.asked) w.place x.finds)),
+      subst R (sym x.key_is) (all_merged p n (key_in l.asked) h.whole x.owner x.none),
+    )
+
+-- ---- the record that is fetched
+fetched : (p : Pool) (m : Machine) (k : ℕ) (r : Record) (at : Ref) → IsMachineAt p m → 0 < k → entry_at at.offset ((store_in p).logs at.lane) ≡ Some r → is_authority k r ≡ true → Agrees (authority_in (store_in p) k) k r
+    → IsLatestAt (seen p m) at.lane k at.offset
+fetched p m k r at h pos there auth agrees =
+    let x : IsRecordAt at.offset ((store_in p).logs at.lane) r = record_found at.offset ((store_in p).logs at.lane) r there in
+    let P : Found (Option Record) → Type 0 = λ f. Agrees f k x.p.entry in
+    let Q : Record → Type 0 = λ y. Agrees (authority_in (store_in p) k) k y in
     record {
-      p = w.of;
-      sealed = has_sealed p n w.of h (subst P (sym w.log) (Contains-append_right w.before (w.of ∷ w.after) w.of (head_has w.of w.after)));
-      at = at;
-      past = a.to_is ∙ ap (λ o. o + length_in_words w.of.entry) (sym w.at);
-      followed = λ k pos auth. elim (a.follows k auth) [
-        | inl e ↦ inl (gives p k (Some (ref_word (record { lane = n; offset = w.of.offset }))) h pos (e ∙ ap (λ o. Some (ref_word (record { lane = n; offset = o }))) (sym w.at)))
-        | inr f ↦ inr (gives p k None h pos f.0, f.1)
-      ];
+      p = x.p;
+      at = x.offset;
+      of = record { sealed = has_sealed p at.lane x.p h.whole x.has; authority = ap (is_authority k) x.entry ∙ auth };
+      latest = record {
+        logs = (store_in p).logs;
+        chains = p.chains;
+        reads = h.whole.represents.reads;
+        agrees = subst P (sym (authority_is p.words p.chains (store_in p) k pos h.whole.represents)) (subst Q (sym x.entry) agrees);
+      };
     }
 
-passes_at : (p : Pool) (m : Machine) (n to : ℕ) (x : Merging) → IsMachineAt p m → m.mergers n ≡ Some x → x.place ≡ Pass to → MayPass p.words n to
-passes_at p m n to x h is e =
-    let P : MergePlace → Type 0 = λ w. KnowsMerge n p w in
-    may_pass p n to h.whole (h.actors.numbers n x is) (subst P e (h.know.mergers n x is).knows)
+lane_fetches : (p : Pool) (m : Machine) (n look : ℕ) (l : LaneState) (way : Way) → IsMachineAt p m → IsClear (seen p m) n l → l.mode ≡ mode.Finding (locate.Call (Owner look)) (find.Fetch way)
+    → IsLatestAt (seen p m) l.base.fetch.at.lane (key_in l.asked) l.base.fetch.at.offset
+lane_fetches p m n look l way h c e =
+    let at : IsLaneAt n l p = h.know.lanes n l c.runs in
+    let P : Mode → Type 0 = λ y. Knows p n l.base l.asked y in
+    let Q : Mode → Type 0 = λ y. IsAt (p.owners.knows n).look n l.base l.asked y in
+    let x : KnowsRecord p (key_in l.asked) (wish_in (brief_of n l.asked) (locate.Call (Owner look))) l.base.fetch = subst P e (knows p m n l h c) in
+    let pos : 0 < key_in l.asked = positive l.asked (subst Q e at.at).1.0.called in
+    fetched p m (key_in l.asked) x.of l.base.fetch.at h pos x.fetch.sealed.there x.fetch.sealed.of_key x.agrees
 
 -- ---- all of them
 places_at : (p : Pool) (m : Machine) → IsMachineAt p m → KnowPlaces (seen p m)
@@ -208,7 +230,8 @@ places_at p m h = record {
   gates = λ n l r c e. gate_known p n l.base l.asked l.mode r (knows p m n l h c) e;
   replies = λ n key l view value located c e f. reply_for p m n key l view value located h c e f;
   seals = λ n l r s c e. seals_at p m n l r s h c e;
-  passes = λ n to x is e. passes_at p m n to x h is e;
+  walks = λ n look l w c e. lane_walks p m n look l w h c e;
+  fetches = λ n look l way c e. lane_fetches p m n look l way h c e;
 }
 
 pub know_places : (segments : ℕ) (m : Machine) → IsSound segments m → KnowPlaces m

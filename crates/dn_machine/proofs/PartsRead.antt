@@ -1,5 +1,6 @@
 use Rattle.std.proofs.Common.{ℕ, ◌<◌, ◌≡◌, ◌⊎◌, inl, inr, Bool, true, false, if◌then◌else◌, List, [], ◌∷◌, Contains, Option, Some, None, nat_eq, refl, sym, ◌∙◌, ap, subst, arith}
 use Rattle.std.proofs.lemmas.Bool.Decides.{nat_tests}
+use Rattle.dn_word.specs.declared.packed.gate.Gate.{Gate}
 use Rattle.dn_word.specs.declared.packed.deed.Deed.{Deed}
 use Rattle.dn_word.specs.declared.packed.deed.DeedState.{DeedState}
 use Rattle.dn_word.specs.declared.packed.deed.DeedState.TheVariants.{Nobody, Owned, Leaving, Released}
@@ -12,14 +13,27 @@ use Rattle.dn_model.proofs.MapLaws.{one_log, lane_or_not}
 use Rattle.dn_owners.proofs.Ats.{none_some, same_some}
 use Rattle.dn_owners.proofs.Logs.{nil_has, head_has, tail_has}
 use Rattle.dn_beside.specs.Pool.{Pool, store_in, IsWhole}
+use Rattle.dn_lane2.specs.State.{LaneState}
 use Rattle.dn_machine.specs.State.{Machine}
+use Rattle.dn_machine.specs.Sound.{IsMachineAt}
 use Rattle.dn_machine.specs.Sealed.{IsSealed}
+use Rattle.dn_machine.specs.Owning.{IsClear}
 
 -- What a reader of the words finds is what the pool has.
 
 -- a machine with the pool's words is the machine
 pub by_words : (P : Machine → Type 0) (p : Pool) (m : Machine) → p.words ≡ m.words → P (record m { words = p.words }) → P m
 by_words P p m e h = subst (λ (ws : List ℕ). P (record m { words = ws })) e h
+
+abbrev pub seen : Pool → Machine → Machine
+seen p m = record m { words = p.words }
+
+-- ---- lanes
+pub lane_of : (p : Pool) (m : Machine) (n : ℕ) (l : LaneState) → IsMachineAt p m → m.lanes n ≡ Some l → IsLane n
+lane_of p m n l h is = let made = h.actors.made n l is in h.actors.numbers n made.0 made.1
+
+pub is_clear : (p : Pool) (m : Machine) (n : ℕ) (l : LaneState) → IsMachineAt p m → IsClear (seen p m) n l → ((store_in p).gates n).fenced ≡ false
+is_clear p m n l h c = ap (λ (g : Gate). g.fenced) (sym (h.whole.represents.table.gates n (lane_of p m n l h c.runs).below)) ∙ c.unfenced
 
 -- ---- sealed records
 pub sealed_has : (p : Pool) (n : ℕ) (x : Placed) → IsWhole p → IsSealed p.words n x → Contains ((store_in p).logs n) x

@@ -20,12 +20,9 @@ use Rattle.dn_callers.proofs.Lists.{has_receipt}
 use Rattle.dn_machine.specs.State.{Machine}
 use Rattle.dn_machine.specs.Sound.{IsMachineAt, IsSound}
 use Rattle.dn_machine.specs.Stamps.{AreBound, watched_at, IsEnded, IsMergedFor, GrantsInOrder}
-use Rattle.dn_machine.proofs.PartsRead.{by_words, sealed_has, deed_low, deed_is, owner_low}
+use Rattle.dn_machine.proofs.PartsRead.{by_words, seen, sealed_has, deed_low, deed_is, owner_low}
 
 -- Stamps of receipts, and what the monitor waits for.
-
-abbrev seen : Pool → Machine → Machine
-seen p m = record m { words = p.words }
 
 -- ---- receipts
 promised_by : (p : Pool) (m : Machine) (x : Standing) → IsMachineAt p m → Contains m.callers.receipts x → x.receipt.position.stamp ≤ p.owners.promised (key_of x.receipt.call)

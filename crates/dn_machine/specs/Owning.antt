@@ -27,6 +27,11 @@ use Rattle.dn_machine.specs.Sealed.{IsSealedOf}
 
 -- Owners: who may change a key, and what they know of it.
 
+-- lane n runs, and its gate has no bit
+pub record IsClear (m : Machine) (n : ℕ) (l : LaneState) : Type 0 where
+  pub runs : m.lanes n ≡ Some l
+  pub unfenced : (gate m.words n).fenced ≡ false
+
 -- ---- An authority record that isn't merged lies only in the log of the lane that its slot's deed names.
 pub record IsInOneLog (m : Machine) : Type 0 where
   pub each : (n k : ℕ) (p : Placed) → IsSealedOf m.words n k p → mark m.words n ≤ p.offset → owner m.words k ≡ n
@@ -51,15 +56,13 @@ look_in (mode.Sealing (seal.Task phase) s) = None
 
 -- While the lane's gate has no bit, the deed still names it, in that epoch and with that floor, and is Owned or Leaving.
 pub record HoldLooks (m : Machine) : Type 0 where
-  pub each : (n word : ℕ) (l : LaneState) → m.lanes n ≡ Some l → look_in l.mode ≡ Some word
-      → (gate m.words n).fenced ≡ false
+  pub each : (n word : ℕ) (l : LaneState) → IsClear m n l → look_in l.mode ≡ Some word
       → IsHeld (deed m.words (slot_of (key_in l.asked))) n (look_by (slot_of (key_in l.asked)) word)
 
 -- ---- Pending records.
--- lane n runs, without the bit, and the slot's deed names it
+-- such a lane is the one that the slot's deed names
 pub record OwnsSlot (m : Machine) (n slot : ℕ) (l : LaneState) : Type 0 where
-  pub runs : m.lanes n ≡ Some l
-  pub clear : (gate m.words n).fenced ≡ false
+  pub clear : IsClear m n l
   pub names : (deed m.words slot).lane ≡ n
 
 -- the deed is Owned, and the lane has met its epoch
@@ -97,6 +100,6 @@ pub record KnowPending (m : Machine) : Type 0 where
   -- the last that counts is the key's authority: of a slot whose deed is Owned, and after a look
   pub last : (n k : ℕ) (l : LaneState) (at : Ref) → 0 < k → HasMet m n (slot_of k) l
       → pending_of l.base.known k ≡ Some at → (at.lane ≡ n) × IsLatestAt m n k at.offset
-  pub looked : (n word : ℕ) (l : LaneState) (at : Ref) → m.lanes n ≡ Some l → look_in l.mode ≡ Some word
-      → (gate m.words n).fenced ≡ false → pending_of l.base.known (key_in l.asked) ≡ Some at
+  pub looked : (n word : ℕ) (l : LaneState) (at : Ref) → IsClear m n l → look_in l.mode ≡ Some word
+      → pending_of l.base.known (key_in l.asked) ≡ Some at
       → (at.lane ≡ n) × IsLatestAt m n (key_in l.asked) at.offset

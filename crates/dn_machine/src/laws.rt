@@ -17,7 +17,7 @@ ghost use Rattle.dn_machine.specs.Indexed.{HasIndex};
 ghost use Rattle.dn_machine.specs.Owning.{IsInOneLog, HoldLooks, KnowPending};
 ghost use Rattle.dn_machine.specs.Stamps.{AreBound, GrantsInOrder};
 ghost use Rattle.dn_machine.specs.Places.{KnowPlaces};
-ghost use Rattle.dn_machine.specs.Walking.{KnowWalks};
+ghost use Rattle.dn_machine.specs.Turns.{KnowTurns};
 ghost use Rattle.dn_machine.specs.Cells.{HasUnusedCells};
 
 /// The words that an opening leaves for 1 to 63 lanes, in a pool of at most 8,192 segments, are sound before anybody acts.
@@ -78,7 +78,7 @@ pub fn parts()
     ensures pending { (segments : ℕ) (m : Machine) → IsSound segments m → KnowPending m }
     ensures stamps { (segments : ℕ) (m : Machine) → IsSound segments m → AreBound m }
     ensures grants { (segments : ℕ) (m : Machine) → IsSound segments m → GrantsInOrder m }
-    ensures places { (segments : ℕ) (m : Machine) → IsSound segments m → KnowPlaces m }
-    ensures walks { (segments : ℕ) (m : Machine) → IsSound segments m → KnowWalks m }
+    ensures lanes { (segments : ℕ) (m : Machine) → IsSound segments m → KnowPlaces m }
+    ensures mergers { (segments : ℕ) (m : Machine) → IsSound segments m → KnowTurns m }
     ensures cells { (segments : ℕ) (m : Machine) → IsSound segments m → HasUnusedCells m }
 {}
