@@ -1,6 +1,6 @@
-use Rattle.std.proofs.Common.{ℕ, ◌≡◌, List, [], Contains, Option, Some, None, refl, sym, ◌∙◌, ap, subst, arith}
+use Rattle.std.proofs.Common.{ℕ, ◌≡◌, List, [], Contains, Option, Some, sym, ◌∙◌, ap, subst}
 use Rattle.dn_word.specs.declared.packed.gate.Gate.{Gate}
-use Rattle.dn_model.specs.Regions.{gate, mark, IsLane}
+use Rattle.dn_model.specs.Regions.{gate, IsLane}
 use Rattle.dn_plan.specs.declared.phases.RoomPhase.TheVariants as rooming
 use Rattle.dn_plan.specs.declared.phases.SealPhase.TheVariants as sealing
 use Rattle.dn_ask.specs.declared.asks.FindRoom.TheVariants as room

@@ -1,14 +1,12 @@
-use Rattle.std.proofs.Common.{ℕ, ◌+◌, ◌<◌, ◌≤◌, ◌≡◌, inl, inr, true, false, List, map, Contains, Option, Some, None, slice_index, refl, sym, ◌∙◌, ap, subst, arith}
+use Rattle.std.proofs.Common.{ℕ, ◌<◌, ◌≤◌, ◌≡◌, inl, inr, List, map, Contains, Option, Some, None, slice_index, refl, sym, ◌∙◌, ap, subst, arith}
 use Rattle.std.specs.Option.{option_map}
-use Rattle.dn_word.specs.declared.packed.gate.Gate.{Gate}
 use Rattle.dn_word.specs.declared.packed.deed.Deed.{Deed}
 use Rattle.dn_word.specs.declared.packed.place.Ref.{Ref}
 use Rattle.dn_record.specs.declared.records.Record.{Record}
-use Rattle.dn_model.specs.Regions.{gate, mark, deed, slot_of, IsLane}
-use Rattle.dn_model.specs.Held.{Found, authority}
+use Rattle.dn_model.specs.Regions.{mark, deed, slot_of}
+use Rattle.dn_model.specs.Held.{Found}
 use Rattle.dn_model.specs.declared.logs.Placed.{Placed}
 use Rattle.dn_model.proofs.HashLaws.{slot_below}
-use Rattle.dn_store.specs.Holding.{authority_in}
 use Rattle.dn_store.proofs.Holding.{owner_is, authority_is}
 use Rattle.dn_plan.specs.declared.phases.ActPhase.TheVariants as phase
 use Rattle.dn_plan.specs.declared.phases.LocatePhase.TheVariants.{Owner}
@@ -31,13 +29,13 @@ use Rattle.dn_lane2.specs.declared.modes.Mode.TheVariants as mode
 use Rattle.dn_owners.specs.declared.plain.Pending.{Pending}
 use Rattle.dn_owners.specs.Counting.{pending_from, last_counting}
 use Rattle.dn_owners.specs.Known.{Look, Learnt}
-use Rattle.dn_owners.specs.Sound.{Owns, IsHeld, IsLearnt, Agrees}
+use Rattle.dn_owners.specs.Sound.{Owns, IsHeld, Agrees}
 use Rattle.dn_owners.specs.Merging.{IsRecordOf}
 use Rattle.dn_owners.proofs.Ats.{none_some, same_some}
 use Rattle.dn_owners.proofs.Logs.{ordered}
 use Rattle.dn_owners.proofs.Counting.{counting_some}
 use Rattle.dn_beside.specs.Pool.{Pool, store_in, IsWhole}
-use Rattle.dn_learnt.specs.Learning.{Learns, IsMet, pending_by}
+use Rattle.dn_learnt.specs.Learning.{Learns, pending_by}
 use Rattle.dn_learnt.specs.Heeding.{look_by}
 use Rattle.dn_learnt.specs.Pendings.{IsPendingAt}
 use Rattle.dn_learnt.proofs.Asks.{IsNow, pending_is}
@@ -168,7 +166,7 @@ counts_at p m n k l x h o s le =
     let P : List Pending → Type 0 = λ qs. Contains {X = Pending} qs (record { key = k; offset = x.offset }) in
     record {
       held = has_entry l.base.known.pending.entries k x.offset (subst P (sym (pendings_are p n l.base.known h.whole learns))
-      (has_pending (p.owners.knows n).dropped ((store_in p).logs n) x k past (sealed_has p n x h.whole s.sealed) s.authority));
+          (has_pending (p.owners.knows n).dropped ((store_in p).logs n) x k past (sealed_has p n x h.whole s.sealed) s.authority));
       counts = omega (arith, c.from, c.learnt.now.from);
     }
 

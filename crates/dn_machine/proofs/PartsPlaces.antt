@@ -1,5 +1,4 @@
-use Rattle.std.proofs.Common.{ℕ, ◌+◌, ◌<◌, ◌≤◌, ◌≡◌, ◌⊎◌, inl, inr, true, false, List, [], ◌∷◌, ◌++◌, Contains, Option, Some, None, refl, sym, ◌∙◌, ap, subst, arith}
-use Rattle.std.proofs.lemmas.List.Elements.{Contains-append_right}
+use Rattle.std.proofs.Common.{ℕ, ◌<◌, ◌≤◌, ◌≡◌, true, false, List, [], ◌++◌, Option, Some, None, sym, ◌∙◌, ap, subst, arith}
 use Rattle.dn_act.specs.Words.{word_at}
 use Rattle.dn_ask.specs.Ask.{wish_in}
 use Rattle.dn_ask.specs.declared.asks.Act.{Act}
@@ -17,28 +16,24 @@ use Rattle.dn_lane2.specs.declared.asked.Asked.{Asked}
 use Rattle.dn_lane2.specs.declared.base.Base.{Base}
 use Rattle.dn_lane2.specs.declared.modes.Mode.{Mode}
 use Rattle.dn_lanes.proofs.Called.{is_call, call_record, call_key, positive}
-use Rattle.dn_lanes.specs.Calls.{IsCalled, key_in}
+use Rattle.dn_lanes.specs.Calls.{key_in}
 use Rattle.dn_lanes.specs.Lane.{IsLaneAt}
-use Rattle.dn_lanes.specs.Phases.{IsReply, IsReplyTo, KnowsReply, KnowsGate, KnowsActing, Knows, IsSealing, IsAt}
+use Rattle.dn_lanes.specs.Phases.{IsReply, KnowsReply, KnowsGate, KnowsActing, Knows, IsSealing, IsAt}
 use Rattle.dn_log.specs.Log.{Log, new_segment_of}
 use Rattle.dn_log.specs.declared.plans.Plan.{Plan}
 use Rattle.dn_log.specs.declared.staging.Staged.{Staged}
 use Rattle.dn_machine.proofs.PartsRead.{by_words, seen, is_clear, sealed_has, has_sealed, IsRecordAt, record_found}
 use Rattle.dn_machine.proofs.PartsWalking.{has_walked, lane_behind}
 use Rattle.dn_machine.specs.Owning.{IsClear, IsLatestAt}
-use Rattle.dn_machine.specs.Places.{located_at, located_in, raised_at, raised_in, record_in, IsReplyFor, IsSealingIn, AllMerged, KnowPlaces}
-use Rattle.dn_machine.specs.Sealed.{HoldsAt}
+use Rattle.dn_machine.specs.Places.{located_at, located_in, raised_at, raised_in, IsReplyFor, IsSealingIn, AllMerged, KnowPlaces}
 use Rattle.dn_machine.specs.Sound.{IsCallOf, IsMachineAt, IsSound}
 use Rattle.dn_machine.specs.State.{Machine}
 use Rattle.dn_machine.specs.Walking.{IsBehind, HasWalked}
-use Rattle.dn_model.proofs.HashLaws.{home_below}
 use Rattle.dn_model.specs.Held.{Found, Says, is_authority, entry_at}
 use Rattle.dn_model.specs.Log.{Tiles}
-use Rattle.dn_model.specs.Regions.{gate, gate_at, mark, offsets, home_of, IsLane, slot_of}
-use Rattle.dn_model.specs.declared.logs.Placed.{Placed}
+use Rattle.dn_model.specs.Regions.{gate_at, offsets, slot_of}
 use Rattle.dn_owners.proofs.Ats.{none_some, same_some}
 use Rattle.dn_owners.proofs.Last.{none_found}
-use Rattle.dn_owners.proofs.Logs.{head_has}
 use Rattle.dn_owners.specs.Known.{Look}
 use Rattle.dn_owners.specs.Sound.{Agrees}
 use Rattle.dn_plan.specs.declared.phases.LocatePhase.TheVariants.{Owner}
@@ -54,16 +49,12 @@ use Rattle.dn_receipts.specs.Sealing.{record_of}
 use Rattle.dn_record.specs.Grammar.{IsRecord}
 use Rattle.dn_record.specs.Record.{length_in_words, spelling, value_of, key_of as key_of_record}
 use Rattle.dn_record.specs.declared.records.Record.{Record}
-use Rattle.dn_record.specs.declared.records.Record.TheVariants.{Delete}
 use Rattle.dn_seek.proofs.Seeks.{agreed_held}
 use Rattle.dn_seek.specs.Seeking.{KnowsWalk as KnowsIndexed, KnowsRecord}
 use Rattle.dn_services.specs.Staged.{directory_staged, pad_staged, placed}
 use Rattle.dn_services.specs.declared.seals.Seal.{Seal}
 use Rattle.dn_store.proofs.Holding.{held_is, authority_is}
 use Rattle.dn_store.specs.Holding.{holds, authority_in, waiting}
-use Rattle.dn_store.specs.Standing.{Stands}
-use Rattle.dn_word.specs.Ref.{ref_word}
-use Rattle.dn_word.specs.declared.packed.gate.Gate.{Gate}
 use Rattle.dn_word.specs.declared.packed.place.Ref.{Ref}
 use Rattle.dn_plan.specs.declared.phases.ActPhase.TheVariants as phase
 use Rattle.dn_plan.specs.declared.phases.RoomPhase.TheVariants as rooming

@@ -1,11 +1,8 @@
-use Rattle.std.proofs.Common.{ℕ, ◌+◌, ◌<◌, ◌≤◌, ◌≡◌, inl, inr, List, length, slice_index, Some, refl, sym, ◌∙◌, ap, subst, arith}
+use Rattle.std.proofs.Common.{ℕ, ◌+◌, ◌<◌, ◌≡◌, inl, inr, length, slice_index, sym, ◌∙◌, ap, subst, arith}
 use Rattle.std.proofs.lemmas.List.Elements.{All-get_or}
-use Rattle.dn_word.specs.Regions.{segment_counter_at, overflow_counter_at}
-use Rattle.dn_act.specs.Words.{word_at}
 use Rattle.dn_model.specs.Regions.{directory, IsLane}
 use Rattle.dn_log.specs.Log.{Log, reach_of}
 use Rattle.dn_lane2.specs.State.{LaneState}
-use Rattle.dn_store.specs.Space.{IsSpace}
 use Rattle.dn_beside.specs.Pool.{Pool, store_in}
 use Rattle.dn_reach.specs.OwnLog.{HoldsLog}
 use Rattle.dn_reach.proofs.Within.{reach_longer, spare_last}

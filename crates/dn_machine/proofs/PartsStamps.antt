@@ -1,8 +1,6 @@
-use Rattle.std.proofs.Common.{ℕ, ◌<◌, ◌≤◌, ◌≡◌, ◌⊎◌, inl, inr, true, max, Contains, Option, Some, None, refl, sym, ◌∙◌, ap, subst, arith}
-use Rattle.dn_word.specs.Deed.{deed_of}
+use Rattle.std.proofs.Common.{ℕ, ◌<◌, ◌≤◌, ◌≡◌, inl, inr, max, Contains, Some, None, sym, ◌∙◌, ap, subst, arith}
 use Rattle.dn_word.specs.declared.packed.gate.Gate.{Gate}
 use Rattle.dn_word.specs.declared.packed.deed.Deed.{Deed}
-use Rattle.dn_word.specs.declared.packed.deed.DeedState.TheVariants.{Released}
 use Rattle.dn_hist.specs.Calls.{key_of}
 use Rattle.dn_model.specs.Regions.{gate, mark, deed, slot_of}
 use Rattle.dn_monitor.specs.Monitor.{Monitoring, IsErrand, IsPlace, slot_in}

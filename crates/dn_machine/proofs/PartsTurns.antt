@@ -1,4 +1,4 @@
-use Rattle.std.proofs.Common.{ℕ, ◌+◌, ◌<◌, ◌≤◌, ◌≡◌, inl, inr, List, ◌∷◌, ◌++◌, Contains, Option, Some, None, refl, sym, ◌∙◌, ap, subst, arith}
+use Rattle.std.proofs.Common.{ℕ, ◌+◌, ◌<◌, ◌≤◌, ◌≡◌, inl, inr, List, ◌∷◌, Contains, Option, Some, None, refl, sym, ◌∙◌, ap, subst, arith}
 use Rattle.std.proofs.lemmas.List.Elements.{Contains-append_right}
 use Rattle.dn_word.specs.Gate.{gate_of}
 use Rattle.dn_word.specs.Ref.{ref_word}
@@ -9,7 +9,6 @@ use Rattle.dn_model.specs.declared.logs.Placed.{Placed}
 use Rattle.dn_model.proofs.HashLaws.{home_below}
 use Rattle.dn_store.proofs.Places.{index_is}
 use Rattle.dn_index.specs.Walk.{Walking}
-use Rattle.dn_merge.specs.Merge.{Merging}
 use Rattle.dn_merge.specs.declared.places.MergePlace.{MergePlace}
 use Rattle.dn_merge.specs.declared.places.MergePlace.TheVariants.{Gate, Mark, Directory, Header, Key, Walk, Pass}
 use Rattle.dn_owners.proofs.Logs.{head_has}

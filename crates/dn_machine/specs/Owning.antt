@@ -3,7 +3,7 @@ use Rattle.dn_word.specs.declared.packed.deed.DeedState.TheVariants.{Owned}
 use Rattle.dn_word.specs.declared.packed.place.Ref.{Ref}
 use Rattle.dn_record.specs.declared.records.Record.{Record}
 use Rattle.dn_model.specs.Regions.{gate, mark, deed, owner, slot_of}
-use Rattle.dn_model.specs.Held.{Found, Reads, authority}
+use Rattle.dn_model.specs.Held.{Reads, authority}
 use Rattle.dn_model.specs.declared.logs.Placed.{Placed}
 use Rattle.dn_plan.specs.declared.phases.LocatePhase.TheVariants.{Owner}
 use Rattle.dn_plan.specs.declared.phases.ActPhase.TheVariants as phase

@@ -67,8 +67,10 @@ pub fn sessions()
         → IsKept p (happens m (Closes s)) }
 {}
 
-/// What a sound machine says of its words and of all who act on them, part by part, in the terms of a reader of the
-/// words. What sessions know, and the order of callers, are `AreSessions` of `dn_callers`, which `IsSound` has as it is.
+/// What a sound machine says of its words and of all who act on them, part by part: no more is read than the words and
+/// the actors' own states. Three parts stand elsewhere as they are. What sessions know of receipts and of positions told
+/// is `AreSessions` of `dn_callers`; that each call under way is its session's only one is `AreActors`; and that
+/// receipts are a legal history of what the words hold is the law `history` of `dn_receipts`.
 pub fn parts()
     ensures space { (segments : ℕ) (m : Machine) → IsSound segments m → HasSpace segments m }
     ensures logs { (segments : ℕ) (m : Machine) → IsSound segments m → HaveLogs m }
