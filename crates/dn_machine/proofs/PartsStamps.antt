@@ -18,7 +18,7 @@ use Rattle.dn_callers.proofs.Lists.{has_receipt}
 use Rattle.dn_machine.specs.State.{Machine}
 use Rattle.dn_machine.specs.Sound.{IsMachineAt, IsSound}
 use Rattle.dn_machine.specs.Stamps.{AreBound, watched_at, IsEnded, IsMergedFor, GrantsInOrder}
-use Rattle.dn_machine.proofs.PartsRead.{by_words, seen, sealed_has, deed_low, deed_is, owner_low}
+use Rattle.dn_machine.proofs.PartsRead.{merged_whole, by_words, seen, sealed_has, deed_low, deed_is, owner_low}
 
 -- Stamps of receipts, and what the monitor waits for.
 
@@ -115,7 +115,7 @@ merged_at p m x errand word gate h is e =
     let upto : gate.len ≤ mark p.words w.lane = omega (arith, found.merged, mark_is) in
     record {
       length = upto;
-      all = λ k y s f. omega (arith, upto, (ended_at p m w h g).sealed k y s f);
+      all = λ k y s f. omega (arith, mark_is, merged_whole p w.lane y h.whole s.sealed (omega (arith, found.merged, (ended_at p m w h g).sealed k y s f)));
     }
 
 grants_at : (p : Pool) (m : Machine) → IsMachineAt p m → GrantsInOrder (seen p m)
