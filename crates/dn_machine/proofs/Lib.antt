@@ -26,3 +26,6 @@ pub mod PartsIndex
 pub mod PartsPending
 pub mod PartsOwning
 pub mod PartsStamps
+pub mod PartsWalking
+pub mod PartsPlaces
+pub mod PartsTurns

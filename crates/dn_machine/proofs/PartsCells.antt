@@ -1,5 +1,5 @@
-use Rattle.std.proofs.Common.{ℕ, ◌≤◌, ◌≡◌, refl, sym, ◌∙◌, ap, arith}
-use Rattle.dn_beside.specs.Pool.{Pool, store_in}
+use Rattle.std.proofs.Common.{ℕ, ◌∙◌, arith}
+use Rattle.dn_beside.specs.Pool.{Pool}
 use Rattle.dn_machine.specs.State.{Machine}
 use Rattle.dn_machine.specs.Sound.{IsMachineAt, IsSound}
 use Rattle.dn_machine.specs.Cells.{HasUnusedCells}

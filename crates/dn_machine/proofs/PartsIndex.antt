@@ -1,9 +1,8 @@
-use Rattle.std.proofs.Common.{ℕ, ◌+◌, ◌<◌, ◌≤◌, ◌≡◌, inl, inr, List, Option, Some, None, Contains, true, refl, sym, ◌∙◌, ap, subst, arith}
+use Rattle.std.proofs.Common.{ℕ, ◌+◌, ◌<◌, ◌≡◌, List, Option, Some, None, true, refl, sym, ◌∙◌, ap, subst, arith}
 use Rattle.dn_word.specs.Ref.{ref_of}
 use Rattle.dn_word.specs.declared.packed.place.Ref.{Ref}
 use Rattle.dn_record.specs.declared.records.Record.{Record}
-use Rattle.dn_model.specs.Regions.{bucket, home_of, IsLane}
-use Rattle.dn_model.specs.declared.logs.Placed.{Placed}
+use Rattle.dn_model.specs.Regions.{bucket, IsLane}
 use Rattle.dn_model.specs.Held.{is_authority, record_at}
 use Rattle.dn_store.specs.Standing.{Stands}
 use Rattle.dn_index.specs.declared.places.Spot.{Spot}

@@ -1,6 +1,6 @@
-use Rattle.std.proofs.Common.{ℕ, ◌≡◌, List, [], Contains, Option, Some, None, refl, sym, ◌∙◌, ap, subst, arith}
+use Rattle.std.proofs.Common.{ℕ, ◌≡◌, List, [], Contains, Option, Some, sym, ◌∙◌, ap, subst}
 use Rattle.dn_word.specs.declared.packed.gate.Gate.{Gate}
-use Rattle.dn_model.specs.Regions.{gate, mark, IsLane}
+use Rattle.dn_model.specs.Regions.{gate, IsLane}
 use Rattle.dn_plan.specs.declared.phases.RoomPhase.TheVariants as rooming
 use Rattle.dn_plan.specs.declared.phases.SealPhase.TheVariants as sealing
 use Rattle.dn_ask.specs.declared.asks.FindRoom.TheVariants as room
@@ -21,7 +21,7 @@ use Rattle.dn_lanes.specs.Phases.{IsAt}
 use Rattle.dn_machine.specs.State.{Machine}
 use Rattle.dn_machine.specs.Sound.{IsMachineAt, IsSound}
 use Rattle.dn_machine.specs.Logs.{HasLog, KnowsLog, HaveLogs}
-use Rattle.dn_machine.proofs.PartsRead.{by_words}
+use Rattle.dn_machine.proofs.PartsRead.{by_words, lane_of}
 
 -- Logs, as a reader of the words finds them.
 
@@ -53,11 +53,10 @@ len_is p m n h l = ap (λ (g : Gate). g.len) (h.whole.represents.table.gates n l
 
 knows_log : (p : Pool) (m : Machine) (n : ℕ) (l : LaneState) → IsMachineAt p m → m.lanes n ≡ Some l → KnowsLog p.words n l
 knows_log p m n l h is =
-    let made = h.actors.made n l is in
     let at : IsLaneAt n l p = h.know.lanes n l is in
     record {
       lane = at.log.lane;
-      len = sym at.log.len ∙ sym (len_is p m n h (h.actors.numbers n made.0 made.1));
+      len = sym at.log.len ∙ sym (len_is p m n h (lane_of p m n l h is));
       segments = at.log.directory;
       staged = may_stage (p.owners.knows n).look n l.base l.asked l.mode at.at;
     }

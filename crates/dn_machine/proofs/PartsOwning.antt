@@ -1,14 +1,12 @@
-use Rattle.std.proofs.Common.{ℕ, ◌+◌, ◌<◌, ◌≤◌, ◌≡◌, inl, inr, true, false, List, map, Contains, Option, Some, None, slice_index, refl, sym, ◌∙◌, ap, subst, arith}
+use Rattle.std.proofs.Common.{ℕ, ◌<◌, ◌≤◌, ◌≡◌, inl, inr, List, map, Contains, Option, Some, None, slice_index, refl, sym, ◌∙◌, ap, subst, arith}
 use Rattle.std.specs.Option.{option_map}
-use Rattle.dn_word.specs.declared.packed.gate.Gate.{Gate}
 use Rattle.dn_word.specs.declared.packed.deed.Deed.{Deed}
 use Rattle.dn_word.specs.declared.packed.place.Ref.{Ref}
 use Rattle.dn_record.specs.declared.records.Record.{Record}
-use Rattle.dn_model.specs.Regions.{gate, mark, deed, slot_of, IsLane}
-use Rattle.dn_model.specs.Held.{Found, authority}
+use Rattle.dn_model.specs.Regions.{mark, deed, slot_of}
+use Rattle.dn_model.specs.Held.{Found}
 use Rattle.dn_model.specs.declared.logs.Placed.{Placed}
 use Rattle.dn_model.proofs.HashLaws.{slot_below}
-use Rattle.dn_store.specs.Holding.{authority_in}
 use Rattle.dn_store.proofs.Holding.{owner_is, authority_is}
 use Rattle.dn_plan.specs.declared.phases.ActPhase.TheVariants as phase
 use Rattle.dn_plan.specs.declared.phases.LocatePhase.TheVariants.{Owner}
@@ -31,30 +29,29 @@ use Rattle.dn_lane2.specs.declared.modes.Mode.TheVariants as mode
 use Rattle.dn_owners.specs.declared.plain.Pending.{Pending}
 use Rattle.dn_owners.specs.Counting.{pending_from, last_counting}
 use Rattle.dn_owners.specs.Known.{Look, Learnt}
-use Rattle.dn_owners.specs.Sound.{Owns, IsHeld, IsLearnt, Agrees}
+use Rattle.dn_owners.specs.Sound.{Owns, IsHeld, Agrees}
 use Rattle.dn_owners.specs.Merging.{IsRecordOf}
 use Rattle.dn_owners.proofs.Ats.{none_some, same_some}
 use Rattle.dn_owners.proofs.Logs.{ordered}
 use Rattle.dn_owners.proofs.Counting.{counting_some}
 use Rattle.dn_beside.specs.Pool.{Pool, store_in, IsWhole}
-use Rattle.dn_learnt.specs.Learning.{Learns, IsMet, pending_by}
+use Rattle.dn_learnt.specs.Learning.{Learns, pending_by}
 use Rattle.dn_learnt.specs.Heeding.{look_by}
-use Rattle.dn_learnt.proofs.Asks.{IsNow}
+use Rattle.dn_learnt.specs.Pendings.{IsPendingAt}
+use Rattle.dn_learnt.proofs.Asks.{IsNow, pending_is}
 use Rattle.dn_learnt.proofs.Lasts.{Rises, pending_rises, counted_at, counted_by, counted_last}
-use Rattle.dn_lanes.specs.Calls.{key_in, HasLook}
+use Rattle.dn_lanes.specs.Calls.{key_in, IsCalled, HasLook}
+use Rattle.dn_lanes.proofs.Called.{positive}
 use Rattle.dn_lanes.specs.Lane.{IsLaneAt}
 use Rattle.dn_lanes.specs.Phases.{IsActing, IsAt}
 use Rattle.dn_machine.specs.State.{Machine}
 use Rattle.dn_machine.specs.Sound.{IsMachineAt, IsSound}
 use Rattle.dn_machine.specs.Sealed.{IsSealedOf}
-use Rattle.dn_machine.specs.Owning.{IsInOneLog, looked_at, look_in, HoldLooks, OwnsSlot, HasMet, IsLatestAt, KnowPending}
-use Rattle.dn_machine.proofs.PartsRead.{by_words, sealed_has, has_sealed, deed_is}
+use Rattle.dn_machine.specs.Owning.{IsInOneLog, IsClear, looked_at, look_in, HoldLooks, OwnsSlot, HasMet, IsLatestAt, KnowPending}
+use Rattle.dn_machine.proofs.PartsRead.{by_words, seen, is_clear, sealed_has, has_sealed, deed_is}
 use Rattle.dn_machine.proofs.PartsPending.{entry_has, has_entry, pending_has, has_pending}
 
 -- Owners, as a reader of words and lanes finds them.
-
-abbrev seen : Pool → Machine → Machine
-seen p m = record m { words = p.words }
 
 -- ---- one log
 -- it isn't merged by the words
@@ -70,24 +67,21 @@ one_at p m h = record {
 pub in_one_log : (segments : ℕ) (m : Machine) → IsSound segments m → IsInOneLog m
 in_one_log segments m h = by_words IsInOneLog h.p m h.at.words (one_at h.p m h.at)
 
--- ---- lanes
-lane_of : (p : Pool) (m : Machine) (n : ℕ) (l : LaneState) → IsMachineAt p m → m.lanes n ≡ Some l → IsLane n
-lane_of p m n l h is = let made = h.actors.made n l is in h.actors.numbers n made.0 made.1
-
-is_clear : (p : Pool) (m : Machine) (n : ℕ) (l : LaneState) → IsMachineAt p m → m.lanes n ≡ Some l → (gate p.words n).fenced ≡ false → ((store_in p).gates n).fenced ≡ false
-is_clear p m n l h is e = ap (λ (g : Gate). g.fenced) (sym (h.whole.represents.table.gates n (lane_of p m n l h is).below)) ∙ e
-
 -- ---- after a look
-its_look : (found : Option Look) (a : Asked) (look word : ℕ) → HasLook found a look → Some look ≡ Some word → found ≡ Some (look_by (slot_of (key_in a)) word)
-its_look found a look word h e = h.looked ∙ ap (λ w. Some (look_by (slot_of (key_in a)) w)) (same_some look word e)
+record HasLooked (found : Option Look) (a : Asked) (word : ℕ) : Type 0 where
+  called : IsCalled a
+  look : found ≡ Some (look_by (slot_of (key_in a)) word)
 
-acting_look : (found : Option Look) (n : ℕ) (a : Asked) (w : Act) (word : ℕ) → IsActing found n a w → looked_at w ≡ Some word → found ≡ Some (look_by (slot_of (key_in a)) word)
+its_look : (found : Option Look) (a : Asked) (look word : ℕ) → HasLook found a look → Some look ≡ Some word → HasLooked found a word
+its_look found a look word h e = record { called = h.called; look = h.looked ∙ ap (λ w. Some (look_by (slot_of (key_in a)) w)) (same_some look word e) }
+
+acting_look : (found : Option Look) (n : ℕ) (a : Asked) (w : Act) (word : ℕ) → IsActing found n a w → looked_at w ≡ Some word → HasLooked found a word
 acting_look found n a (act.Call phase.Look) word h e = absurd (none_some word e)
 acting_look found n a (act.Call (phase.Gate look located)) word h e = its_look found a look word h e
 acting_look found n a (act.Call (phase.Raise r)) word h e = its_look found a r.look word h.0.look e
 acting_look found n a (act.Task phase) word h e = absurd (none_some word e)
 
-look_of : (found : Option Look) (n : ℕ) (g : Base) (a : Asked) (w : Mode) (word : ℕ) → IsAt found n g a w → look_in w ≡ Some word → found ≡ Some (look_by (slot_of (key_in a)) word)
+look_of : (found : Option Look) (n : ℕ) (g : Base) (a : Asked) (w : Mode) (word : ℕ) → IsAt found n g a w → look_in w ≡ Some word → HasLooked found a word
 look_of found n g a mode.Idle word h e = absurd (none_some word e)
 look_of found n g a (mode.Acting wait) word h e = acting_look found n a wait word h.1 e
 look_of found n g a (mode.Finding (locate.Call (Owner look)) find) word h e = its_look found a look word h.1.0 e
@@ -97,14 +91,16 @@ look_of found n g a (mode.Claiming (room.Task phase) claim) word h e = absurd (n
 look_of found n g a (mode.Sealing (seal.Call (sealing.Write r)) s) word h e = its_look found a r.look word h.raised.look e
 look_of found n g a (mode.Sealing (seal.Task phase) s) word h e = absurd (none_some word e)
 
+looked_by : (p : Pool) (m : Machine) (n word : ℕ) (l : LaneState) → IsMachineAt p m → m.lanes n ≡ Some l → look_in l.mode ≡ Some word → HasLooked (p.owners.knows n).look l.asked word
+looked_by p m n word l h is e = look_of (p.owners.knows n).look n l.base l.asked l.mode word (h.know.lanes n l is).at e
+
 looks_at : (p : Pool) (m : Machine) → IsMachineAt p m → HoldLooks (seen p m)
 looks_at p m h = record {
-  each = λ n word l is e clear.
+  each = λ n word l c e.
       let key : ℕ = key_in l.asked in
       let look : Look = look_by (slot_of key) word in
       let P : Deed → Type 0 = λ d. IsHeld d n look in
-      subst P (sym (deed_is p key h.whole)) ((h.whole.sound.looks n).held look
-      (look_of (p.owners.knows n).look n l.base l.asked l.mode word (h.know.lanes n l is).at e) (is_clear p m n l h is clear));
+      subst P (sym (deed_is p key h.whole)) ((h.whole.sound.looks n).held look (looked_by p m n word l h c.runs e).look (is_clear p m n l h c));
 }
 
 pub hold_looks : (segments : ℕ) (m : Machine) → IsSound segments m → HoldLooks m
@@ -128,8 +124,8 @@ entry_is p n k e h l c =
 
 owns_by : (p : Pool) (m : Machine) (n k : ℕ) (l : LaneState) → IsMachineAt p m → OwnsSlot (seen p m) n (slot_of k) l → Owns (p.owners.knows n).running ((store_in p).gates n) ((store_in p).deeds (slot_of k)) n
 owns_by p m n k l h o = record {
-  is_running = (h.know.lanes n l o.runs).learns.running;
-  unfenced = is_clear p m n l h o.runs o.clear;
+  is_running = (h.know.lanes n l o.clear.runs).learns.running;
+  unfenced = is_clear p m n l h o.clear;
   names = ap (λ (d : Deed). d.lane) (sym (deed_is p k h.whole)) ∙ o.names;
 }
 
@@ -141,7 +137,7 @@ record IsLearntNow (p : Pool) (n key : ℕ) (k : KnownState) : Type 0 where
 now_by : (p : Pool) (m : Machine) (n k : ℕ) (l : LaneState) (c : Learnt) → IsMachineAt p m → OwnsSlot (seen p m) n (slot_of k) l → (p.owners.knows n).learnt (slot_of k) ≡ Some c
     → c.epoch ≡ ((store_in p).deeds (slot_of k)).epoch → IsLearntNow p n k l.base.known
 now_by p m n k l c h o is e =
-    let met = (h.know.lanes n l o.runs).learns.met (slot_of k) (slot_below k) in
+    let met = (h.know.lanes n l o.clear.runs).learns.met (slot_of k) (slot_below k) in
     let same : (c.epoch ≡ slice_index l.base.known.epochs (slot_of k)) × (c.from ≡ slice_index l.base.known.counts (slot_of k)) = elim (met.older c is) [
       | inl less ↦ absurd (omega (arith, less, met.upto, e))
       | inr same ↦ same
@@ -165,12 +161,12 @@ counted p m n k l x h o s le =
 counts_at : (p : Pool) (m : Machine) (n k : ℕ) (l : LaneState) (x : Placed) → IsMachineAt p m → OwnsSlot (seen p m) n (slot_of k) l → IsSealedOf p.words n k x → mark p.words n ≤ x.offset → IsCounting l.base.known k x.offset
 counts_at p m n k l x h o s le =
     let c : IsCounted p n k x l.base.known = counted p m n k l x h o s le in
-    let learns = (h.know.lanes n l o.runs).learns in
+    let learns = (h.know.lanes n l o.clear.runs).learns in
     let past : (p.owners.knows n).dropped ≤ x.offset = omega (arith, (h.whole.sound.pending n).low learns.running, not_merged p n k x h.whole s le) in
     let P : List Pending → Type 0 = λ qs. Contains {X = Pending} qs (record { key = k; offset = x.offset }) in
     record {
       held = has_entry l.base.known.pending.entries k x.offset (subst P (sym (pendings_are p n l.base.known h.whole learns))
-      (has_pending (p.owners.knows n).dropped ((store_in p).logs n) x k past (sealed_has p n x h.whole s.sealed) s.authority));
+          (has_pending (p.owners.knows n).dropped ((store_in p).logs n) x k past (sealed_has p n x h.whole s.sealed) s.authority));
       counts = omega (arith, c.from, c.learnt.now.from);
     }
 
@@ -211,7 +207,7 @@ last_at : (p : Pool) (m : Machine) (n k : ℕ) (l : LaneState) (at : Ref) → Is
     → (at.lane ≡ n) × IsLatestAt (seen p m) n k at.offset
 last_at p m n k l at h pos o e =
     let known : KnownState = l.base.known in
-    let lane : IsLaneAt n l p = h.know.lanes n l o.owns.runs in
+    let lane : IsLaneAt n l p = h.know.lanes n l o.owns.clear.runs in
     let d = deed_is p k h.whole in
     let c = (lane.learns.met (slot_of k) (slot_below k)).owner (ap (λ (x : Deed). x.state) (sym d) ∙ o.state) (owns_by p m n k l h o.owns).names (o.epoch ∙ ap (λ (x : Deed). x.epoch) d) in
     let i : IsNow p n k known = (now_by p m n k l c.0 h o.owns c.1 (c.2 ∙ o.epoch ∙ ap (λ (x : Deed). x.epoch) d)).now in
@@ -220,8 +216,22 @@ last_at p m n k l at h pos o e =
     (last_is p n k known i h.whole lane.learns ∙ place_counts known k counting at e) in
     (place_lane known counting at e ∙ lane.log.lane, latest p m n k r.of (counted_at k at.offset) h pos r)
 
+-- and after a look
+looked_at_last : (p : Pool) (m : Machine) (n word : ℕ) (l : LaneState) (at : Ref) → IsMachineAt p m → IsClear (seen p m) n l → look_in l.mode ≡ Some word → pending_of l.base.known (key_in l.asked) ≡ Some at
+    → (at.lane ≡ n) × IsLatestAt (seen p m) n (key_in l.asked) at.offset
+looked_at_last p m n word l at h c e f =
+    let key : ℕ = key_in l.asked in
+    let lane : IsLaneAt n l p = h.know.lanes n l c.runs in
+    let look = looked_by p m n word l h c.runs e in
+    let i : IsPendingAt p n key at = pending_is p n key l.base.known at h.whole (slot_below key) lane.log.lane
+    (record { learns = lane.learns; look = look_by (slot_of key) word; looks = look.look; slot = refl; clear = is_clear p m n l h c }) f in
+    let P : ℕ → Type 0 = λ o. IsLatestAt (seen p m) n key o in
+    (i.lane, subst P (sym i.offset) (latest p m n key i.of.of i.q h (positive l.asked look.called) i.of))
+
 pending_at : (p : Pool) (m : Machine) → IsMachineAt p m → KnowPending (seen p m)
 pending_at p m h = record {
+  past = λ n t l is lt. omega (arith, ((h.know.lanes n l is).learns.met t lt).upto, ap (λ (d : Deed). d.epoch) (h.whole.represents.table.deeds t lt));
+  looked = λ n word l at c e f. looked_at_last p m n word l at h c e f;
   sealed = λ n l e is c. let f = entry_is p n l.base.known e h.whole (h.know.lanes n l is).learns c in (f.x, f.at, f.of);
   counts = λ n k l x o s le. counts_at p m n k l x h o s le;
   met = λ n k l x o s le. (counted p m n k l x h o s le).learnt.epoch;

@@ -1,25 +1,41 @@
-use Rattle.std.proofs.Common.{ℕ, ◌<◌, ◌≡◌, ◌⊎◌, inl, inr, Bool, true, false, if◌then◌else◌, List, [], ◌∷◌, Contains, Option, Some, None, nat_eq, refl, sym, ◌∙◌, ap, subst, arith}
+use Rattle.std.proofs.Common.{ℕ, ◌+◌, ◌<◌, ◌≤◌, ◌≡◌, ◌⊎◌, inl, inr, Bool, true, false, if◌then◌else◌, List, [], ◌∷◌, ◌++◌, Contains, Some, nat_eq, refl, sym, ◌∙◌, ap, subst, arith}
 use Rattle.std.proofs.lemmas.Bool.Decides.{nat_tests}
-use Rattle.dn_word.specs.declared.packed.deed.Deed.{Deed}
+use Rattle.dn_word.specs.declared.packed.gate.Gate.{Gate}
 use Rattle.dn_word.specs.declared.packed.deed.DeedState.{DeedState}
 use Rattle.dn_word.specs.declared.packed.deed.DeedState.TheVariants.{Nobody, Owned, Leaving, Released}
+use Rattle.dn_record.specs.Record.{length_in_words}
 use Rattle.dn_record.specs.declared.records.Record.{Record}
-use Rattle.dn_model.specs.Regions.{gate, mark, deed, owner, slot_of, IsLane}
+use Rattle.dn_model.specs.Regions.{gate, deed, slot_of, offsets, IsLane}
+use Rattle.dn_model.specs.Log.{Tiles}
 use Rattle.dn_model.specs.declared.logs.Placed.{Placed}
 use Rattle.dn_model.specs.Held.{entry_at}
 use Rattle.dn_model.proofs.HashLaws.{slot_below}
 use Rattle.dn_model.proofs.MapLaws.{one_log, lane_or_not}
+use Rattle.dn_store.specs.Cut.{words_in}
 use Rattle.dn_owners.proofs.Ats.{none_some, same_some}
-use Rattle.dn_owners.proofs.Logs.{nil_has, head_has, tail_has}
+use Rattle.dn_owners.proofs.Logs.{nil_has, head_has, tail_has, cons_cases}
 use Rattle.dn_beside.specs.Pool.{Pool, store_in, IsWhole}
+use Rattle.dn_lane2.specs.State.{LaneState}
 use Rattle.dn_machine.specs.State.{Machine}
+use Rattle.dn_machine.specs.Sound.{IsMachineAt}
 use Rattle.dn_machine.specs.Sealed.{IsSealed}
+use Rattle.dn_machine.specs.Owning.{IsClear}
 
 -- What a reader of the words finds is what the pool has.
 
 -- a machine with the pool's words is the machine
 pub by_words : (P : Machine → Type 0) (p : Pool) (m : Machine) → p.words ≡ m.words → P (record m { words = p.words }) → P m
 by_words P p m e h = subst (λ (ws : List ℕ). P (record m { words = ws })) e h
+
+abbrev pub seen : Pool → Machine → Machine
+seen p m = record m { words = p.words }
+
+-- ---- lanes
+pub lane_of : (p : Pool) (m : Machine) (n : ℕ) (l : LaneState) → IsMachineAt p m → m.lanes n ≡ Some l → IsLane n
+lane_of p m n l h is = let made = h.actors.made n l is in h.actors.numbers n made.0 made.1
+
+pub is_clear : (p : Pool) (m : Machine) (n : ℕ) (l : LaneState) → IsMachineAt p m → IsClear (seen p m) n l → ((store_in p).gates n).fenced ≡ false
+is_clear p m n l h c = ap (λ (g : Gate). g.fenced) (sym (h.whole.represents.table.gates n (lane_of p m n l h c.runs).below)) ∙ c.unfenced
 
 -- ---- sealed records
 pub sealed_has : (p : Pool) (n : ℕ) (x : Placed) → IsWhole p → IsSealed p.words n x → Contains ((store_in p).logs n) x
@@ -48,6 +64,33 @@ record_by o x xs r false t rest e = let y = rest e in record { p = y.p; has = ta
 pub record_found : (o : ℕ) (log : List Placed) (r : Record) → entry_at o log ≡ Some r → IsRecordAt o log r
 record_found o [] r e = absurd (none_some r e)
 record_found o (x ∷ xs) r e = record_by o x xs r (nat_eq x.offset o) refl (record_found o xs r) e
+
+-- ---- a record that begins below the mark is merged whole
+tiled_from : (w : ℕ → ℕ) (o end : ℕ) (log : List Placed) (p : Placed) → Tiles w o log end → Contains log p → o ≤ p.offset
+tiled_from w o end [] p h c = absurd (nil_has p c)
+tiled_from w o end (x ∷ xs) p h c = elim (cons_cases x xs p c) [
+  | inl e ↦ omega (arith, ap (λ (y : Placed). y.offset) e, h.0)
+  | inr d ↦ omega (arith, tiled_from w (o + length_in_words x.entry) end xs p h.2 d)
+]
+
+whole_below : (w : ℕ → ℕ) (o end : ℕ) (before after : List Placed) (p : Placed) → Tiles w o (before ++ after) end → Contains (before ++ after) p → p.offset < o + words_in before
+    → p.offset + length_in_words p.entry ≤ o + words_in before
+whole_below w o end [] after p h c lt = absurd (omega (arith, lt, tiled_from w o end after p h c))
+whole_below w o end (x ∷ xs) after p h c lt = elim (cons_cases x (xs ++ after) p c) [
+  | inl e ↦ omega (arith, h.0, ap (λ (y : Placed). y.offset) e, ap (λ (y : Placed). length_in_words y.entry) e)
+  | inr d ↦ (
+      let le = whole_below w (o + length_in_words x.entry) end xs after p h.2 d (omega (arith, lt)) in omega (arith, le))
+]
+
+pub merged_whole : (p : Pool) (n : ℕ) (x : Placed) → IsWhole p → IsSealed p.words n x → x.offset < (store_in p).marks n → x.offset + length_in_words x.entry ≤ (store_in p).marks n
+merged_whole p n x h s lt =
+    let cut = h.represents.merged n in
+    let words = cut.words in
+    let P : List Placed → Type 0 = λ log. Tiles (offsets p.words n) 0 log (gate p.words n).len in
+    let Q : List Placed → Type 0 = λ log. Contains log x in
+    let le = whole_below (offsets p.words n) 0 (gate p.words n).len cut.before cut.after x (subst P cut.whole (h.represents.reads.logs_are n s.lane).tiled)
+    (subst Q cut.whole (sealed_has p n x h s)) (omega (arith, lt, words)) in
+    omega (arith, le, words)
 
 -- ---- deeds
 nobody_in : (s : DeedState) → (s ≡ Nobody) ⊎ ((s ≡ Nobody) → ⊥)

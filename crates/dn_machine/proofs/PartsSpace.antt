@@ -1,11 +1,8 @@
-use Rattle.std.proofs.Common.{ℕ, ◌+◌, ◌<◌, ◌≤◌, ◌≡◌, inl, inr, List, length, slice_index, Some, refl, sym, ◌∙◌, ap, subst, arith}
+use Rattle.std.proofs.Common.{ℕ, ◌+◌, ◌<◌, ◌≡◌, inl, inr, length, slice_index, sym, ◌∙◌, ap, subst, arith}
 use Rattle.std.proofs.lemmas.List.Elements.{All-get_or}
-use Rattle.dn_word.specs.Regions.{segment_counter_at, overflow_counter_at}
-use Rattle.dn_act.specs.Words.{word_at}
 use Rattle.dn_model.specs.Regions.{directory, IsLane}
 use Rattle.dn_log.specs.Log.{Log, reach_of}
 use Rattle.dn_lane2.specs.State.{LaneState}
-use Rattle.dn_store.specs.Space.{IsSpace}
 use Rattle.dn_beside.specs.Pool.{Pool, store_in}
 use Rattle.dn_reach.specs.OwnLog.{HoldsLog}
 use Rattle.dn_reach.proofs.Within.{reach_longer, spare_last}
@@ -13,20 +10,14 @@ use Rattle.dn_owners.proofs.Ats.{same_some}
 use Rattle.dn_machine.specs.State.{Machine}
 use Rattle.dn_machine.specs.Sound.{IsMachineAt, IsSound}
 use Rattle.dn_machine.specs.Space.{Names, Spares, Has, HasSpace}
-use Rattle.dn_machine.proofs.PartsRead.{by_words}
+use Rattle.dn_machine.proofs.PartsRead.{by_words, seen, lane_of}
 
 -- No two lanes have the same segment.
-
-abbrev seen : Pool → Machine → Machine
-seen p m = record m { words = p.words }
 
 -- ---- a segment that a lane has is held by it
 record IsHolding (p : Pool) (n q g : ℕ) : Type 0 where
   lane : IsLane n
   holder : (store_in p).holders g ≡ n
-
-lane_of : (p : Pool) (m : Machine) (n : ℕ) (l : LaneState) → IsMachineAt p m → m.lanes n ≡ Some l → IsLane n
-lane_of p m n l h is = let made = h.actors.made n l is in h.actors.numbers n made.0 made.1
 
 spare_at : (p : Pool) (m : Machine) (n q g : ℕ) (s : Spares (seen p m) n q g) → slice_index (reach_of s.l.base.known.log) q ≡ g
 spare_at p m n q g s = ap (slice_index (reach_of s.l.base.known.log)) (sym s.next) ∙ spare_last s.l.base.known.log g s.spare

@@ -1,8 +1,6 @@
-use Rattle.std.proofs.Common.{ℕ, ◌<◌, ◌≤◌, ◌≡◌, ◌⊎◌, inl, inr, true, max, Contains, Option, Some, None, refl, sym, ◌∙◌, ap, subst, arith}
-use Rattle.dn_word.specs.Deed.{deed_of}
+use Rattle.std.proofs.Common.{ℕ, ◌<◌, ◌≤◌, ◌≡◌, inl, inr, max, Contains, Some, None, sym, ◌∙◌, ap, subst, arith}
 use Rattle.dn_word.specs.declared.packed.gate.Gate.{Gate}
 use Rattle.dn_word.specs.declared.packed.deed.Deed.{Deed}
-use Rattle.dn_word.specs.declared.packed.deed.DeedState.TheVariants.{Released}
 use Rattle.dn_hist.specs.Calls.{key_of}
 use Rattle.dn_model.specs.Regions.{gate, mark, deed, slot_of}
 use Rattle.dn_monitor.specs.Monitor.{Monitoring, IsErrand, IsPlace, slot_in}
@@ -20,12 +18,9 @@ use Rattle.dn_callers.proofs.Lists.{has_receipt}
 use Rattle.dn_machine.specs.State.{Machine}
 use Rattle.dn_machine.specs.Sound.{IsMachineAt, IsSound}
 use Rattle.dn_machine.specs.Stamps.{AreBound, watched_at, IsEnded, IsMergedFor, GrantsInOrder}
-use Rattle.dn_machine.proofs.PartsRead.{by_words, sealed_has, deed_low, deed_is, owner_low}
+use Rattle.dn_machine.proofs.PartsRead.{merged_whole, by_words, seen, sealed_has, deed_low, deed_is, owner_low}
 
 -- Stamps of receipts, and what the monitor waits for.
-
-abbrev seen : Pool → Machine → Machine
-seen p m = record m { words = p.words }
 
 -- ---- receipts
 promised_by : (p : Pool) (m : Machine) (x : Standing) → IsMachineAt p m → Contains m.callers.receipts x → x.receipt.position.stamp ≤ p.owners.promised (key_of x.receipt.call)
@@ -120,7 +115,7 @@ merged_at p m x errand word gate h is e =
     let upto : gate.len ≤ mark p.words w.lane = omega (arith, found.merged, mark_is) in
     record {
       length = upto;
-      all = λ k y s f. omega (arith, upto, (ended_at p m w h g).sealed k y s f);
+      all = λ k y s f. omega (arith, mark_is, merged_whole p w.lane y h.whole s.sealed (omega (arith, found.merged, (ended_at p m w h g).sealed k y s f)));
     }
 
 grants_at : (p : Pool) (m : Machine) → IsMachineAt p m → GrantsInOrder (seen p m)

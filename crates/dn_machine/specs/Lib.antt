@@ -12,4 +12,7 @@ pub mod Logs
 pub mod Indexed
 pub mod Owning
 pub mod Stamps
+pub mod Walking
+pub mod Places
+pub mod Turns
 pub mod Cells

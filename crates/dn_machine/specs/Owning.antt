@@ -3,7 +3,7 @@ use Rattle.dn_word.specs.declared.packed.deed.DeedState.TheVariants.{Owned}
 use Rattle.dn_word.specs.declared.packed.place.Ref.{Ref}
 use Rattle.dn_record.specs.declared.records.Record.{Record}
 use Rattle.dn_model.specs.Regions.{gate, mark, deed, owner, slot_of}
-use Rattle.dn_model.specs.Held.{Found, Reads, authority}
+use Rattle.dn_model.specs.Held.{Reads, authority}
 use Rattle.dn_model.specs.declared.logs.Placed.{Placed}
 use Rattle.dn_plan.specs.declared.phases.LocatePhase.TheVariants.{Owner}
 use Rattle.dn_plan.specs.declared.phases.ActPhase.TheVariants as phase
@@ -26,6 +26,11 @@ use Rattle.dn_machine.specs.State.{Machine}
 use Rattle.dn_machine.specs.Sealed.{IsSealedOf}
 
 -- Owners: who may change a key, and what they know of it.
+
+-- lane n runs, and its gate has no bit
+pub record IsClear (m : Machine) (n : ℕ) (l : LaneState) : Type 0 where
+  pub runs : m.lanes n ≡ Some l
+  pub unfenced : (gate m.words n).fenced ≡ false
 
 -- ---- An authority record that isn't merged lies only in the log of the lane that its slot's deed names.
 pub record IsInOneLog (m : Machine) : Type 0 where
@@ -51,15 +56,13 @@ look_in (mode.Sealing (seal.Task phase) s) = None
 
 -- While the lane's gate has no bit, the deed still names it, in that epoch and with that floor, and is Owned or Leaving.
 pub record HoldLooks (m : Machine) : Type 0 where
-  pub each : (n word : ℕ) (l : LaneState) → m.lanes n ≡ Some l → look_in l.mode ≡ Some word
-      → (gate m.words n).fenced ≡ false
+  pub each : (n word : ℕ) (l : LaneState) → IsClear m n l → look_in l.mode ≡ Some word
       → IsHeld (deed m.words (slot_of (key_in l.asked))) n (look_by (slot_of (key_in l.asked)) word)
 
 -- ---- Pending records.
--- lane n runs, without the bit, and the slot's deed names it
+-- such a lane is the one that the slot's deed names
 pub record OwnsSlot (m : Machine) (n slot : ℕ) (l : LaneState) : Type 0 where
-  pub runs : m.lanes n ≡ Some l
-  pub clear : (gate m.words n).fenced ≡ false
+  pub clear : IsClear m n l
   pub names : (deed m.words slot).lane ≡ n
 
 -- the deed is Owned, and the lane has met its epoch
@@ -83,6 +86,9 @@ pub record IsLatestAt (m : Machine) (n k offset : ℕ) : Type 0 where
   pub latest : IsLatest m k p.entry
 
 pub record KnowPending (m : Machine) : Type 0 where
+  -- no epoch that a lane has met is of the future
+  pub past : (n slot : ℕ) (l : LaneState) → m.lanes n ≡ Some l → slot < 64
+      → slice_index l.base.known.epochs slot ≤ (deed m.words slot).epoch
   -- what is pending is sealed there
   pub sealed : (n : ℕ) (l : LaneState) (e : Entry) → m.lanes n ≡ Some l → Contains l.base.known.pending.entries e
       → (p : Placed) × (p.offset ≡ e.at) × IsSealedOf m.words n e.key p
@@ -91,6 +97,9 @@ pub record KnowPending (m : Machine) : Type 0 where
       → mark m.words n ≤ p.offset → IsCounting l.base.known k p.offset
   pub met : (n k : ℕ) (l : LaneState) (p : Placed) → OwnsSlot m n (slot_of k) l → IsSealedOf m.words n k p
       → mark m.words n ≤ p.offset → slice_index l.base.known.epochs (slot_of k) ≡ (deed m.words (slot_of k)).epoch
-  -- the last that counts is the key's authority
+  -- the last that counts is the key's authority: of a slot whose deed is Owned, and after a look
   pub last : (n k : ℕ) (l : LaneState) (at : Ref) → 0 < k → HasMet m n (slot_of k) l
       → pending_of l.base.known k ≡ Some at → (at.lane ≡ n) × IsLatestAt m n k at.offset
+  pub looked : (n word : ℕ) (l : LaneState) (at : Ref) → IsClear m n l → look_in l.mode ≡ Some word
+      → pending_of l.base.known (key_in l.asked) ≡ Some at
+      → (at.lane ≡ n) × IsLatestAt m n (key_in l.asked) at.offset

@@ -1,7 +1,8 @@
-use Rattle.std.specs.Prelude.{◌≡◌, ◌⊎◌, ◌<◌, ◌≤◌, ℕ, true, max, Contains, Option, Some, None}
+use Rattle.std.specs.Prelude.{◌≡◌, ◌⊎◌, ◌<◌, ◌≤◌, ℕ, ◌+◌, true, max, Contains, Option, Some, None}
 use Rattle.dn_word.specs.Deed.{deed_of}
 use Rattle.dn_word.specs.declared.packed.gate.Gate.{Gate}
 use Rattle.dn_word.specs.declared.packed.deed.DeedState.TheVariants.{Released}
+use Rattle.dn_record.specs.Record.{length_in_words}
 use Rattle.dn_hist.specs.Calls.{key_of}
 use Rattle.dn_model.specs.Regions.{gate, mark, deed, slot_of}
 use Rattle.dn_model.specs.declared.logs.Placed.{Placed}
@@ -49,11 +50,11 @@ pub record IsEnded (m : Machine) (w : Watch) : Type 0 where
   pub stamps : (x : Standing) → Contains m.callers.receipts x → slot_of (key_of x.receipt.call) ≡ w.slot
       → x.receipt.position.stamp ≤ max (deed m.words w.slot).floor w.stamp
 
--- At the grant the log is merged up to that length, and with it all that the lane sealed of the slot.
+-- At the grant the log is merged up to that length, and with it each whole record that the lane sealed of the slot.
 pub record IsMergedFor (m : Machine) (errand : Errand) (word : ℕ) (gate : Gate) : Type 0 where
   pub length : gate.len ≤ mark m.words (deed_of word).lane
   pub all : (k : ℕ) (p : Placed) → IsSealedOf m.words (deed_of word).lane k p → slot_of k ≡ (watch_of errand word gate).slot
-      → p.offset < mark m.words (deed_of word).lane
+      → p.offset + length_in_words p.entry ≤ mark m.words (deed_of word).lane
 
 pub record GrantsInOrder (m : Machine) : Type 0 where
   pub ended : (x : Monitoring) (w : Watch) → m.monitor ≡ Some x → watched_at x.place ≡ Some w → IsEnded m w

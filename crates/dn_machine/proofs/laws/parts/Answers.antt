@@ -3,6 +3,8 @@ use Rattle.dn_machine.proofs.PartsLogs.{have_logs}
 use Rattle.dn_machine.proofs.PartsIndex.{has_index}
 use Rattle.dn_machine.proofs.PartsOwning.{in_one_log, hold_looks, know_pending}
 use Rattle.dn_machine.proofs.PartsStamps.{are_bound, grants_in_order}
+use Rattle.dn_machine.proofs.PartsPlaces.{know_places}
+use Rattle.dn_machine.proofs.PartsTurns.{know_turns}
 use Rattle.dn_machine.proofs.PartsCells.{has_cells}
 use Rattle.dn_machine.proofs.laws.parts.Goals as goal
 
@@ -29,6 +31,12 @@ returns-clause-stamps c = are_bound
 
 pub returns-clause-grants : goal.returns-clause-grants
 returns-clause-grants c = grants_in_order
+
+pub returns-clause-lanes : goal.returns-clause-lanes
+returns-clause-lanes c = know_places
+
+pub returns-clause-mergers : goal.returns-clause-mergers
+returns-clause-mergers c = know_turns
 
 pub returns-clause-cells : goal.returns-clause-cells
 returns-clause-cells c = has_cells
