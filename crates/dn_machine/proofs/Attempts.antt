@@ -1,4 +1,4 @@
-use Rattle.std.proofs.Common.{ℕ, ◌≡◌, ◌≢◌, Bool, List, Option, Some, None, refl, sym, ◌∙◌, ap, subst}
+use Rattle.std.proofs.Common.{ℕ, ◌≡◌, ◌≢◌, Some, None, sym, ◌∙◌, ap, subst}
 use Rattle.dn_act.specs.Action.{words_after}
 use Rattle.dn_act.specs.declared.actions.Action.{Action}
 use Rattle.dn_hist.specs.Calls.{Bytes, key_of, reply_of, map_after}
@@ -8,11 +8,7 @@ use Rattle.dn_lane2.specs.Asked.{call_in}
 use Rattle.dn_lane2.specs.Next.{next_of}
 use Rattle.dn_lane2.specs.State.{LaneState}
 use Rattle.dn_lane2.specs.Taken.{Taken, taken_by}
-use Rattle.dn_lane2.specs.Turns.{turned, turn_of}
-use Rattle.dn_lane2.specs.declared.asked.Asked.{Asked}
-use Rattle.dn_merge.specs.Merge.{Merging, merge_next}
-use Rattle.dn_beside.specs.Pool.{Pool, store_in}
-use Rattle.dn_turns.specs.Steps.{MergerStepped}
+use Rattle.dn_lane2.specs.Turns.{turn_of}
 use Rattle.dn_lanes.specs.Stepped.{receipt_by, LaneStepped}
 use Rattle.dn_receipts.specs.Joined.{Joins}
 use Rattle.dn_receipts.proofs.Plain.{none_keeps, its_reply, its_change}

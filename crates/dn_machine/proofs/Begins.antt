@@ -1,4 +1,4 @@
-use Rattle.std.proofs.Common.{ℕ, ◌+◌, ◌≤◌, ◌≡◌, ◌≢◌, Option, Some, None, refl, sym, ◌∙◌, subst, arith}
+use Rattle.std.proofs.Common.{ℕ, ◌≡◌, ◌≢◌, Option, Some, None, refl, sym, ◌∙◌, subst, arith}
 use Rattle.dn_hist.specs.Calls.{key_of}
 use Rattle.dn_hist.specs.declared.calls.Call.{Call}
 use Rattle.dn_hist.specs.declared.calls.Call.TheVariants.{Get, Put, Delete}
@@ -6,10 +6,8 @@ use Rattle.dn_hist.specs.declared.receipts.SessionView.{SessionView}
 use Rattle.dn_model.specs.Regions.{IsLane}
 use Rattle.dn_owners.proofs.Ats.{same_some}
 use Rattle.dn_tend.specs.declared.tasks.Task.{Task}
-use Rattle.dn_tend.specs.declared.tasks.Task.TheVariants.{Release, Trim, Share, Unshare}
 use Rattle.dn_lane2.specs.State.{LaneState, begun, begun_task}
-use Rattle.dn_lane2.specs.declared.asked.Asked.{Asked}
-use Rattle.dn_beside.specs.Pool.{Pool, store_in, IsWhole}
+use Rattle.dn_beside.specs.Pool.{Pool, IsWhole}
 use Rattle.dn_beside.specs.Step.{IsStepBy, by_lane}
 use Rattle.dn_beside.proofs.Still.{learning_step}
 use Rattle.dn_lanes.specs.Begun.{IsOwnTask}
@@ -20,7 +18,7 @@ use Rattle.dn_lane2.specs.declared.modes.Mode.TheVariants.{Idle}
 use Rattle.dn_machine.specs.State.{Machine}
 use Rattle.dn_machine.specs.Events.{Asks, Tends, with_lane, of_lane, happens}
 use Rattle.dn_machine.specs.Given.{IsOfSession, HasNoCall, IsFree, MayAsk}
-use Rattle.dn_machine.specs.Sound.{claims, claiming, IsCallOf, IsMachineAt}
+use Rattle.dn_machine.specs.Sound.{claims, IsCallOf, IsMachineAt}
 use Rattle.dn_machine.specs.Kept.{IsKept}
 use Rattle.dn_machine.proofs.Lanes.{lane_changes, claims_change}
 use Rattle.dn_machine.proofs.LaneActs.{lane_of}

@@ -1,4 +1,4 @@
-use Rattle.std.proofs.Common.{ℕ, ◌≡◌, ◌≢◌, ◌⊎◌, inl, inr, Bool, true, false, List, Option, Some, None, refl, sym, ◌∙◌, ap, subst}
+use Rattle.std.proofs.Common.{ℕ, ◌≡◌, ◌≢◌, ◌⊎◌, inl, inr, Bool, true, false, List, Option, Some, None, refl, sym, subst}
 use Rattle.dn_hist.specs.Calls.{key_of}
 use Rattle.dn_hist.specs.declared.calls.Call.{Call}
 use Rattle.dn_hist.specs.declared.receipts.Receipt.{Receipt}
@@ -9,10 +9,8 @@ use Rattle.dn_plan.specs.declared.phases.Way.{Way}
 use Rattle.dn_ask.specs.declared.asks.End.{End as EndOf}
 use Rattle.dn_ask.specs.declared.asks.End.TheVariants as end
 use Rattle.dn_ask.specs.declared.asks.Locate.{Locate}
-use Rattle.dn_find.specs.declared.finds.Find.{Find}
 use Rattle.dn_find.specs.declared.finds.Found.{Found}
 use Rattle.dn_find.specs.declared.finds.Found.TheVariants as found
-use Rattle.dn_lane2.specs.Asked.{call_in, view_in}
 use Rattle.dn_lane2.specs.Ends.{turn_by}
 use Rattle.dn_lane2.specs.Found.{kept_in}
 use Rattle.dn_lane2.specs.Taken.{Taken, taken_by, here_of, sought_by}

@@ -1,7 +1,7 @@
-use Rattle.std.proofs.Common.{ℕ, ◌<◌, ◌≤◌, ◌≡◌, ◌≢◌, List, length, Some, refl, sym, ◌∙◌, ap, arith, slice_set}
+use Rattle.std.proofs.Common.{ℕ, ◌≤◌, ◌≡◌, List, length, Some, ◌∙◌, arith, slice_set}
 use Rattle.dn_word.specs.Format.{format_word}
 use Rattle.dn_word.specs.Regions.{format_at}
-use Rattle.dn_act.specs.Words.{word_at, pool_size, IsZeros}
+use Rattle.dn_act.specs.Words.{pool_size, IsZeros}
 use Rattle.dn_act.proofs.Words.{word_at-set_same, word_at-set_other, length-set}
 use Rattle.dn_store.specs.Fresh.{IsFreshPool}
 use Rattle.dn_monitor.specs.Monitor.{begun}

@@ -1,17 +1,16 @@
-use Rattle.std.proofs.Common.{ℕ, ◌≡◌, ◌≤◌, ◌<◌, Bool, true, false, List, refl, sym, ◌∙◌, ap, subst, arith}
+use Rattle.std.proofs.Common.{ℕ, ◌≡◌, Bool, true, false, refl, sym, ◌∙◌, ap, subst, arith}
 use Rattle.std.proofs.lemmas.Bool.{false≢true}
 use Rattle.dn_word.specs.declared.packed.gate.Gate.{Gate}
 use Rattle.dn_word.specs.declared.packed.deed.Deed.{Deed}
-use Rattle.dn_model.specs.Regions.{gate, deed}
-use Rattle.dn_owners.specs.Later.{IsRisen}
-use Rattle.dn_beside.specs.Pool.{Pool, store_in, IsWhole}
+use Rattle.dn_model.specs.Regions.{gate}
+use Rattle.dn_beside.specs.Pool.{Pool, IsWhole}
 use Rattle.dn_beside.specs.Grown.{Grows}
 use Rattle.dn_machine.specs.State.{Machine}
 use Rattle.dn_machine.specs.Events.{Event, happens}
 use Rattle.dn_machine.specs.Given.{IsGiven}
 use Rattle.dn_machine.specs.Growing.{HaveGrown}
 use Rattle.dn_machine.specs.Kept.{IsKept}
-use Rattle.dn_machine.specs.Sound.{IsMachineAt, IsSound}
+use Rattle.dn_machine.specs.Sound.{IsSound}
 use Rattle.dn_machine.proofs.Kept.{kept}
 
 -- What only grows, in the words.

@@ -1,10 +1,10 @@
-use Rattle.std.proofs.Common.{◌≡◌, ◌≤◌, ◌+◌, ℕ, true, false, List, Contains, refl, sym, ap, subst, arith}
+use Rattle.std.proofs.Common.{◌≡◌, ◌≤◌, ℕ, true, false, List, Contains, refl, sym, ap, subst, arith}
 use Rattle.dn_word.specs.declared.packed.gate.Gate.{Gate}
 use Rattle.dn_hist.specs.Calls.{Bytes, IsWrite}
 use Rattle.dn_hist.specs.Replay.{IsLegal, map_left}
 use Rattle.dn_hist.specs.declared.receipts.Receipt.{Receipt}
 use Rattle.dn_model.specs.PoolMap.{HoldsMap}
-use Rattle.dn_beside.specs.Pool.{Pool, IsWhole, store_in}
+use Rattle.dn_beside.specs.Pool.{Pool, IsWhole}
 use Rattle.dn_route.specs.CallersOrder.{KeepsCallersOrder}
 use Rattle.dn_receipts.specs.Receipts.{IsSpelled}
 use Rattle.dn_receipts.proofs.Histories.{legal_history, history_map, its_map}

@@ -1,4 +1,4 @@
-use Rattle.std.proofs.Common.{ℕ, ◌≡◌, ◌≤◌, Bool, List, [], ◌∷◌, refl, sym, ◌∙◌, ap, subst}
+use Rattle.std.proofs.Common.{ℕ, Bool, List, [], ◌∷◌, sym, subst}
 use Rattle.dn_beside.specs.Pool.{Pool, store_in}
 use Rattle.dn_machine.specs.State.{Machine}
 use Rattle.dn_machine.specs.Events.{Actor, Lane, Merger, Monitor, Session, Event, Acts, Flows, Fails, FlowFails, Asks, Tends, Orders, Loads, Adds, Numbers, Tells, Hints, Stops, Closes, Renews, Drops, happens}

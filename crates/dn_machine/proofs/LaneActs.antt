@@ -1,34 +1,22 @@
-use Rattle.std.proofs.Common.{ℕ, ◌+◌, ◌-◌, ◌^◌, ◌<◌, ◌≤◌, ◌≡◌, ◌≢◌, ◌⊎◌, inl, inr, ◌&&◌, Bool, true, false, if◌then◌else◌, List, [], ◌∷◌, ◌++◌, Option, Some, None, refl, sym, ◌∙◌, ap, subst, arith}
-use Rattle.dn_act.specs.Action.{Performs, at_of, words_after}
-use Rattle.dn_act.specs.Words.{word_at}
+use Rattle.std.proofs.Common.{ℕ, ◌+◌, ◌-◌, ◌^◌, ◌<◌, ◌≡◌, List, Option, Some, None, refl, sym, subst, arith}
+use Rattle.dn_act.specs.Action.{words_after}
 use Rattle.dn_act.specs.declared.actions.Action.{Action}
-use Rattle.dn_hist.specs.Calls.{key_of}
-use Rattle.dn_hist.specs.CallersOrder.{IsBefore}
-use Rattle.dn_hist.specs.declared.calls.Call.{Call}
-use Rattle.dn_hist.specs.declared.receipts.Receipt.{Receipt}
-use Rattle.dn_hist.specs.declared.receipts.SessionView.{SessionView}
 use Rattle.dn_log.specs.Staged.{flow_of}
 use Rattle.dn_model.specs.Regions.{IsLane}
 use Rattle.dn_store.specs.State.{with_at}
-use Rattle.dn_owners.proofs.Ats.{same_some, none_some}
-use Rattle.dn_lane2.specs.Asked.{call_in, view_in}
-use Rattle.dn_lane2.specs.Left.{is_sealing}
+use Rattle.dn_owners.proofs.Ats.{same_some}
 use Rattle.dn_lane2.specs.Next.{next_of}
 use Rattle.dn_lane2.specs.State.{LaneState}
 use Rattle.dn_lane2.specs.Taken.{Taken, taken_by}
-use Rattle.dn_lane2.specs.Turns.{turned, left, turn_of, left_of, flowed_of}
-use Rattle.dn_lane2.specs.declared.asked.Asked.{Asked}
-use Rattle.dn_lane2.specs.declared.asked.Asked.TheVariants as asked
-use Rattle.dn_beside.specs.Pool.{Pool, store_in, IsWhole}
-use Rattle.dn_beside.specs.Step.{IsStepBy, IsQuiet, by_lane}
-use Rattle.dn_lanes.specs.Begun.{IsStoppedAt}
+use Rattle.dn_lane2.specs.Turns.{flowed_of}
+use Rattle.dn_beside.specs.Pool.{Pool, store_in}
 use Rattle.dn_lanes.specs.Lane.{IsLaneAt}
-use Rattle.dn_lanes.specs.Stepped.{receipt_by, claims_in, IsOfCall, ComesTo, LaneStepped, FlowStepped}
+use Rattle.dn_lanes.specs.Stepped.{LaneStepped, FlowStepped}
 use Rattle.dn_lanes.proofs.Steps.{lane_steps, lane_flows}
 use Rattle.dn_receipts.proofs.Joining.{none_joins}
 use Rattle.dn_callers.specs.Callers.{receipts_of}
 use Rattle.dn_machine.specs.State.{Machine}
-use Rattle.dn_machine.specs.Events.{Lane, Acts, Flows, found, acted, answered, of_lane, lane_does, lane_flows as flowing_lane, happens}
+use Rattle.dn_machine.specs.Events.{Lane, Acts, Flows, found, of_lane, lane_does, lane_flows as flowing_lane, happens}
 use Rattle.dn_machine.specs.Given.{IsOfSession}
 use Rattle.dn_machine.specs.Kept.{IsKept}
 use Rattle.dn_machine.specs.Sound.{claims, claiming, IsCallOf, HaveRoom, IsMachineAt}
@@ -71,7 +59,7 @@ flow_change : (p : Pool) (m : Machine) (n : ℕ) (l : LaneState) (index : ℕ) (
     → IsLaneChange p s.q m n l (Some (flowed_of l index)) m.callers
 flow_change p m n l index now h is s =
     let sum : claiming (with_at m.lanes n (Some (flowed_of l index))) + claims (Some l) ≡ claiming m.lanes + claims (Some (flowed_of l index)) =
-        claims_change m.lanes n l (Some (flowed_of l index)) (lane_of p m n l h is) is in
+    claims_change m.lanes n l (Some (flowed_of l index)) (lane_of p m n l h is) is in
     record {
       at_p = h;
       was_there = is;

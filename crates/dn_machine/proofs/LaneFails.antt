@@ -1,4 +1,4 @@
-use Rattle.std.proofs.Common.{ℕ, ◌+◌, ◌<◌, ◌≤◌, ◌≡◌, ◌≢◌, Bool, true, false, if◌then◌else◌, List, [], ◌∷◌, ◌++◌, Option, Some, None, refl, sym, ◌∙◌, ap, subst, arith}
+use Rattle.std.proofs.Common.{ℕ, ◌+◌, ◌≤◌, ◌≡◌, ◌≢◌, Bool, true, false, if◌then◌else◌, List, Option, Some, None, refl, sym, ◌∙◌, ap, subst, arith}
 use Rattle.std.proofs.lemmas.Bool.{false≢true}
 use Rattle.dn_act.specs.Action.{words_after}
 use Rattle.dn_act.specs.declared.actions.Action.{Action}
@@ -15,11 +15,11 @@ use Rattle.dn_lane2.specs.Asked.{call_in, view_in}
 use Rattle.dn_lane2.specs.Next.{next_of}
 use Rattle.dn_lane2.specs.State.{LaneState}
 use Rattle.dn_lane2.specs.Taken.{Taken, taken_by}
-use Rattle.dn_lane2.specs.Turns.{turned, turn_of, flowed_of}
+use Rattle.dn_lane2.specs.Turns.{turned}
 use Rattle.dn_lane2.specs.declared.asked.Asked.{Asked}
 use Rattle.dn_lane2.specs.declared.asked.Asked.TheVariants as asked
-use Rattle.dn_beside.specs.Pool.{Pool, store_in, IsWhole}
-use Rattle.dn_beside.specs.Step.{IsStepBy, IsQuiet, by_lane}
+use Rattle.dn_beside.specs.Pool.{Pool, store_in}
+use Rattle.dn_beside.specs.Step.{IsStepBy, by_lane}
 use Rattle.dn_beside.proofs.Chained.{step_then, quiet_then}
 use Rattle.dn_learnt.specs.Heeding.{IsStopped}
 use Rattle.dn_learnt.proofs.Lessons.{stops}
@@ -31,17 +31,17 @@ use Rattle.dn_receipts.specs.Joined.{Joins}
 use Rattle.dn_receipts.specs.Receipts.{AreReceipts}
 use Rattle.dn_receipts.proofs.Joining.{none_joins, one_joins, read_passes}
 use Rattle.dn_callers.specs.Callers.{Callers, receipts_of}
-use Rattle.dn_callers.specs.Changes.{closed_at, unanswered_by}
-use Rattle.dn_callers.specs.Sessions.{AreSessions, IsUnderWay, IsReceiptOf}
+use Rattle.dn_callers.specs.Changes.{unanswered_by}
+use Rattle.dn_callers.specs.Sessions.{AreSessions, IsReceiptOf}
 use Rattle.dn_callers.proofs.Lists.{one_more}
 use Rattle.dn_callers.proofs.Answering.{closed_sessions, unanswered_sessions, unanswered_calls}
 use Rattle.dn_machine.specs.State.{Machine}
-use Rattle.dn_machine.specs.Events.{Lane, Fails, FlowFails, Stops, found, closed_for, unanswered, written, receipt_if, of_lane, lane_stops, lane_fails, flow_fails, happens}
+use Rattle.dn_machine.specs.Events.{Lane, Fails, FlowFails, Stops, found, closed_for, unanswered, written, of_lane, lane_stops, lane_fails, flow_fails, happens}
 use Rattle.dn_machine.specs.Given.{IsOfSession}
 use Rattle.dn_machine.specs.Kept.{IsKept}
 use Rattle.dn_machine.specs.Sound.{claims, claiming, IsCallOf, IsMachineAt}
 use Rattle.dn_machine.proofs.Calls.{taken_same, IsAnswer, answer_of}
-use Rattle.dn_machine.proofs.Lanes.{IsLaneChange, lane_changes, claims_change, others_so}
+use Rattle.dn_machine.proofs.Lanes.{lane_changes, claims_change, others_so}
 use Rattle.dn_machine.proofs.LaneActs.{lane_of, lane_comes}
 use Rattle.dn_machine.proofs.Rest.{performs, stays}
 use Rattle.dn_machine.proofs.Sessions.{call_unclosed}

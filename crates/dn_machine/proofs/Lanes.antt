@@ -1,7 +1,6 @@
-use Rattle.std.proofs.Common.{ℕ, ◌+◌, ◌<◌, ◌≤◌, ◌≡◌, ◌≢◌, ◌⊎◌, inl, inr, Bool, true, false, List, [], ◌∷◌, ◌++◌, Option, Some, None, refl, sym, ◌∙◌, ap, subst, arith}
+use Rattle.std.proofs.Common.{ℕ, ◌+◌, ◌≤◌, ◌≡◌, ◌≢◌, inl, inr, true, List, Option, Some, None, refl, sym, ◌∙◌, ap, subst, arith}
 use Rattle.std.proofs.lemmas.Bool.{cases_eq}
 use Rattle.dn_hist.specs.Calls.{key_of}
-use Rattle.dn_hist.specs.declared.calls.Call.{Call}
 use Rattle.dn_hist.specs.declared.receipts.Receipt.{Receipt}
 use Rattle.dn_hist.specs.declared.receipts.SessionView.{SessionView}
 use Rattle.dn_hist.specs.CallersOrder.{IsBefore}
@@ -16,11 +15,11 @@ use Rattle.dn_lane2.specs.Asked.{call_in, view_in}
 use Rattle.dn_lane2.specs.declared.modes.Mode.{Mode}
 use Rattle.dn_lane2.specs.declared.modes.Mode.TheVariants as mode
 use Rattle.dn_lane2.specs.State.{LaneState}
-use Rattle.dn_lane2.specs.Taken.{Taken, taken_by}
+use Rattle.dn_lane2.specs.Taken.{Taken}
 use Rattle.dn_lane2.specs.Turns.{turned, left}
 use Rattle.dn_lane2.specs.declared.asked.Asked.{Asked}
 use Rattle.dn_lane2.specs.declared.asked.Asked.TheVariants as asked
-use Rattle.dn_beside.specs.Pool.{Pool, store_in, IsWhole}
+use Rattle.dn_beside.specs.Pool.{Pool, store_in}
 use Rattle.dn_beside.specs.Step.{IsStepBy, by_lane}
 use Rattle.dn_turns.specs.Sums.{sum_to}
 use Rattle.dn_turns.proofs.Sums.{sum_changes, sum_most}
@@ -37,9 +36,9 @@ use Rattle.dn_callers.proofs.Answering.{answered_sessions, answered_calls}
 use Rattle.dn_machine.specs.State.{Machine}
 use Rattle.dn_machine.specs.Events.{answered}
 use Rattle.dn_machine.specs.Given.{IsOfSession}
-use Rattle.dn_machine.specs.Sound.{claims, claiming, IsCallOf, AreActors, KnowPool, HaveRoom, IsMachineAt}
+use Rattle.dn_machine.specs.Sound.{claims, claiming, IsCallOf, AreActors, IsMachineAt}
 use Rattle.dn_machine.proofs.Others.{lanes_last, mergers_last, monitor_lasts, unmade_lasts}
-use Rattle.dn_machine.proofs.Calls.{SameCall, taken_same, session_left, call_left, IsAnswer, answer_of, gone}
+use Rattle.dn_machine.proofs.Calls.{SameCall, session_left, call_left, IsAnswer, answer_of, gone}
 
 -- A lane changes, or is stopped.
 
@@ -126,6 +125,7 @@ at_most (Some l) = in_mode l.mode where
   at_claim : (c : Claim) → claims_at c ≤ 1
   at_claim (Reading pool segments) = omega arith
   at_claim (Taking pool segments) = omega arith
+
   in_mode : (x : Mode) → claims_in x ≤ 1
   in_mode mode.Idle = omega arith
   in_mode (mode.Acting wait) = omega arith

@@ -1,5 +1,4 @@
-use Rattle.std.proofs.Common.{ℕ, ◌+◌, ◌≤◌, ◌≡◌, ◌≢◌, inl, inr, Option, Some, None, refl, sym, ◌∙◌, ap, subst, arith}
-use Rattle.std.proofs.lemmas.Bool.{cases_eq}
+use Rattle.std.proofs.Common.{ℕ, ◌+◌, ◌≡◌, ◌≢◌, Option, Some, None, refl, sym, ◌∙◌, ap, subst, arith}
 use Rattle.dn_model.specs.Regions.{IsLane}
 use Rattle.dn_owners.proofs.Ats.{none_some, same_some}
 use Rattle.dn_store.specs.State.{StoreState, with_at}

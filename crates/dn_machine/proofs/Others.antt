@@ -1,9 +1,9 @@
-use Rattle.std.proofs.Common.{ℕ, ◌<◌, ◌≤◌, ◌≡◌, ◌≢◌, false, Option, Some, None, refl, sym, ◌∙◌, ap}
+use Rattle.std.proofs.Common.{ℕ, ◌≡◌, ◌≢◌, false, Some, None}
 use Rattle.dn_model.specs.Regions.{IsLane}
 use Rattle.dn_merge.specs.Merge.{Merging}
 use Rattle.dn_monitor.specs.Monitor.{Monitoring}
 use Rattle.dn_lane2.specs.State.{LaneState}
-use Rattle.dn_beside.specs.Pool.{Pool, store_in, IsWhole}
+use Rattle.dn_beside.specs.Pool.{Pool}
 use Rattle.dn_beside.specs.Step.{Acting, IsStepBy}
 use Rattle.dn_turns.specs.Knows.{IsMergerAt}
 use Rattle.dn_turns.proofs.Lasts.{merger_lasts}
@@ -14,7 +14,7 @@ use Rattle.dn_lanes.specs.Unmade.{IsUnmade}
 use Rattle.dn_lanes.proofs.Lasts.{lane_lasts}
 use Rattle.dn_lanes.proofs.Unmade.{unmade_lasts as unmade_stays}
 use Rattle.dn_machine.specs.State.{Machine}
-use Rattle.dn_machine.specs.Sound.{AreActors, KnowPool, IsMachineAt}
+use Rattle.dn_machine.specs.Sound.{IsMachineAt}
 
 -- A step of one actor leaves to all others what they know.
 

@@ -66,7 +66,7 @@ at_pass p n to h l a =
       merges = at_itself p n a.mark a.works h l;
       ends = ends_at p n a.mark to a.works a.to_is;
       followed = λ k pos auth. elim (a.follows k auth) [
-        | inl e ↦ inl (gives p k (Some (ref_word (record { lane = n; offset = of.offset }))) h pos (e ∙ ap (λ o. Some (ref_word (record { lane = n; offset = o }))) (sym a.works.at)))
+        | inl e ↦ inl (gives p k (Some (ref_word (record { lane = n; offset = of.offset }))) h pos (e.0 ∙ ap (λ o. Some (ref_word (record { lane = n; offset = o }))) (sym a.works.at)))
         | inr f ↦ inr (gives p k None h pos f.0, f.1)
       ];
     }

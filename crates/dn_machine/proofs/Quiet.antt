@@ -1,12 +1,11 @@
-use Rattle.std.proofs.Common.{ℕ, ◌≡◌, List, Option, Some, None, refl, sym, ◌∙◌, ap, subst, arith}
+use Rattle.std.proofs.Common.{ℕ, ◌≡◌, List, Option, Some, None, refl, sym, subst, arith}
 use Rattle.dn_act.specs.Action.{words_after}
 use Rattle.dn_act.specs.declared.actions.Action.{Action}
 use Rattle.dn_hist.specs.Calls.{Bytes}
-use Rattle.dn_model.specs.Regions.{IsLane}
 use Rattle.dn_model.specs.PoolMap.{HoldsMap}
 use Rattle.dn_merge.specs.Merge.{Merging, merge_next, merge_after}
 use Rattle.dn_monitor.specs.Monitor.{Monitoring, monitor_next}
-use Rattle.dn_beside.specs.Pool.{Pool, store_in, IsWhole}
+use Rattle.dn_beside.specs.Pool.{Pool, IsWhole}
 use Rattle.dn_beside.specs.Step.{IsQuiet}
 use Rattle.dn_turns.specs.Steps.{MergerStepped}
 use Rattle.dn_turns.proofs.Steps.{merger_steps}
@@ -29,7 +28,7 @@ by_merger_map p m n map h x None is = x
 by_merger_map p m n map h x (Some y) is =
     let now : List ℕ = words_after (merge_next y) m.words in
     let s : MergerStepped n y p (found m (merge_next y)) now = merger_steps n y p (found m (merge_next y)) now
-        (record { whole = h.whole; lane = h.actors.numbers n y is; few = omega (arith, h.room.buckets) }) (h.know.mergers n y is) (performs p m (merge_next y) h.words) in
+    (record { whole = h.whole; lane = h.actors.numbers n y is; few = omega (arith, h.room.buckets) }) (h.know.mergers n y is) (performs p m (merge_next y) h.words) in
     map_stays p s.left.q m.words now map h.whole s.left.step.whole h.words s.left.words s.left.quiet x
 
 pub merger_map : (segments : ℕ) (m : Machine) (n : ℕ) (map : Bytes) → IsSound segments m → HoldsMap m.words map → HoldsMap (happens m (Acts (Merger n))).words map

@@ -1,4 +1,4 @@
-use Rattle.std.proofs.Common.{ℕ, ◌≡◌, ◌<◌, Bool, false, List, Option, Some, None, refl, sym, arith}
+use Rattle.std.proofs.Common.{ℕ, ◌≡◌, ◌<◌, Bool, false, List, Option, Some, None, sym, arith}
 use Rattle.std.proofs.lemmas.Option.{same_Some, none-some}
 use Rattle.dn_word.specs.declared.positions.Position.{Position}
 use Rattle.dn_word.specs.Regions.{deed_at}

@@ -1,8 +1,7 @@
-use Rattle.std.specs.Prelude.{◌≡◌, ◌≢◌, ◌<◌, ◌≤◌, ◌^◌, ℕ, false, List, Option, Some, None}
+use Rattle.std.specs.Prelude.{◌≡◌, ◌<◌, ◌^◌, ℕ, false, List, Some, None}
 use Rattle.dn_hist.specs.declared.calls.Call.{Call}
 use Rattle.dn_hist.specs.declared.receipts.SessionView.{SessionView}
 use Rattle.dn_model.specs.Regions.{IsLane}
-use Rattle.dn_tend.specs.declared.tasks.Task.{Task}
 use Rattle.dn_monitor.specs.Monitor.{IsOrder}
 use Rattle.dn_monitor.specs.declared.orders.Order.{Order}
 use Rattle.dn_monitor.specs.declared.orders.Order.TheVariants.{Format, Takeover}
@@ -15,7 +14,7 @@ use Rattle.dn_lanes.specs.Calls.{IsCall}
 use Rattle.dn_orders.specs.Knowing.{AreLanes}
 use Rattle.dn_callers.specs.Sessions.{IsSession, IsUnderWay}
 use Rattle.dn_machine.specs.State.{Machine}
-use Rattle.dn_machine.specs.Events.{Actor, Event, Acts, Flows, Fails, FlowFails, Asks, Tends, Orders, Loads, Adds, Numbers, Tells, Hints, Stops, Closes, Renews, Drops}
+use Rattle.dn_machine.specs.Events.{Event, Acts, Flows, Fails, FlowFails, Asks, Tends, Orders, Loads, Adds, Numbers, Tells, Hints, Stops, Closes, Renews, Drops}
 
 -- When a thing may be given.
 

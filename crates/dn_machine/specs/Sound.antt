@@ -1,4 +1,4 @@
-use Rattle.std.specs.Prelude.{◌≡◌, ◌≢◌, ◌<◌, ◌≤◌, ◌+◌, ℕ, List, Option, Some, None}
+use Rattle.std.specs.Prelude.{◌≡◌, ◌≢◌, ◌<◌, ◌≤◌, ◌+◌, ℕ, Option, Some, None}
 use Rattle.dn_hist.specs.Calls.{key_of}
 use Rattle.dn_model.specs.Regions.{IsLane}
 use Rattle.dn_merge.specs.Merge.{Merging}
