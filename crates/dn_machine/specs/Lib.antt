@@ -6,13 +6,3 @@ pub mod Kept
 pub mod Histories
 pub mod Runs
 pub mod Growing
-pub mod Sealed
-pub mod Space
-pub mod Logs
-pub mod Indexed
-pub mod Owning
-pub mod Stamps
-pub mod Walking
-pub mod Places
-pub mod Turns
-pub mod Cells

@@ -25,14 +25,6 @@ ghost use Rattle.dn_machine.specs.Sound.{IsSound};
 ghost use Rattle.dn_machine.specs.Runs.{after, IsRun};
 ghost use Rattle.dn_machine.specs.Growing.{HaveGrown};
 ghost use Rattle.dn_machine.specs.Histories.{IsHistory, IsSealedIn};
-ghost use Rattle.dn_machine.specs.Space.{HasSpace};
-ghost use Rattle.dn_machine.specs.Logs.{HaveLogs};
-ghost use Rattle.dn_machine.specs.Indexed.{HasIndex};
-ghost use Rattle.dn_machine.specs.Owning.{IsInOneLog, HoldLooks, KnowPending};
-ghost use Rattle.dn_machine.specs.Stamps.{AreBound, GrantsInOrder};
-ghost use Rattle.dn_machine.specs.Places.{KnowPlaces};
-ghost use Rattle.dn_machine.specs.Turns.{KnowTurns};
-ghost use Rattle.dn_machine.specs.Cells.{HasUnusedCells};
 
 /// A pool of zeros with at most 8,192 segments is sound once the monitor's order to format it is carried out, and nobody
 /// owns a slot. So are the words that an opening leaves for 1 to 63 lanes, before anybody acts.
@@ -119,22 +111,4 @@ pub fn others()
         → HoldsMap m.words map → HoldsMap (happens m (Acts (Merger n))).words map }
     ensures monitor { (segments : ℕ) (m : Machine) (map : Bytes) → IsSound segments m
         → HoldsMap m.words map → HoldsMap (happens m (Acts Monitor)).words map }
-{}
-
-/// What a sound machine says of its words and of all who act on them, part by part: no more is read than the words and
-/// the actors' own states. Three parts stand elsewhere as they are. What sessions know of receipts and of positions told
-/// is `AreSessions` of `dn_callers`; that each call under way is its session's only one is `AreActors`; and that
-/// receipts are a legal history of what the words hold is the law `history` of `dn_receipts`.
-pub fn parts()
-    ensures space { (segments : ℕ) (m : Machine) → IsSound segments m → HasSpace segments m }
-    ensures logs { (segments : ℕ) (m : Machine) → IsSound segments m → HaveLogs m }
-    ensures index { (segments : ℕ) (m : Machine) → IsSound segments m → HasIndex m }
-    ensures one_log { (segments : ℕ) (m : Machine) → IsSound segments m → IsInOneLog m }
-    ensures looks { (segments : ℕ) (m : Machine) → IsSound segments m → HoldLooks m }
-    ensures pending { (segments : ℕ) (m : Machine) → IsSound segments m → KnowPending m }
-    ensures stamps { (segments : ℕ) (m : Machine) → IsSound segments m → AreBound m }
-    ensures grants { (segments : ℕ) (m : Machine) → IsSound segments m → GrantsInOrder m }
-    ensures lanes { (segments : ℕ) (m : Machine) → IsSound segments m → KnowPlaces m }
-    ensures mergers { (segments : ℕ) (m : Machine) → IsSound segments m → KnowTurns m }
-    ensures cells { (segments : ℕ) (m : Machine) → IsSound segments m → HasUnusedCells m }
 {}

@@ -9,7 +9,7 @@ use Rattle.dn_index.specs.declared.places.WalkPlace.TheVariants.{Key, Next, Matc
 use Rattle.dn_beside.specs.Pool.{Pool, store_in, IsWhole}
 use Rattle.dn_walks.specs.Changing.{Fills, KnowsWalk}
 use Rattle.dn_walks.specs.Finding.{KnowsFind}
-use Rattle.dn_machine.specs.Walking.{IsBehind, HasWalked}
+use Rattle.dn_parts.specs.Walking.{IsBehind, HasWalked}
 
 -- What actors know while they walk along a bucket chain.
 

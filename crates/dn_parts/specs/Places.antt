@@ -34,9 +34,9 @@ use Rattle.dn_reach.specs.Staging.{AreFlowing}
 use Rattle.dn_receipts.specs.Sealing.{record_of}
 use Rattle.dn_lanes.specs.Calls.{key_in}
 use Rattle.dn_machine.specs.State.{Machine}
-use Rattle.dn_machine.specs.Sealed.{IsSealedOf, HoldsAt}
-use Rattle.dn_machine.specs.Owning.{IsClear, IsLatestAt}
-use Rattle.dn_machine.specs.Walking.{HasWalked}
+use Rattle.dn_parts.specs.Sealed.{IsSealedOf, HoldsAt}
+use Rattle.dn_parts.specs.Owning.{IsClear, IsLatestAt}
+use Rattle.dn_parts.specs.Walking.{HasWalked}
 
 -- What a lane knows at the phases of its call.
 

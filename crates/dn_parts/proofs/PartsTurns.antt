@@ -16,10 +16,10 @@ use Rattle.dn_beside.specs.Pool.{Pool, store_in, IsWhole}
 use Rattle.dn_turns.specs.Knows.{Works, KnowsMerge, AtWalk as KnowsAtWalk, AtPass as KnowsAtPass}
 use Rattle.dn_machine.specs.State.{Machine}
 use Rattle.dn_machine.specs.Sound.{IsMachineAt, IsSound}
-use Rattle.dn_machine.specs.Sealed.{GivesAt}
-use Rattle.dn_machine.specs.Turns.{Merges, AtWalk, AtPass, IsTurnAt, KnowTurns}
-use Rattle.dn_machine.proofs.PartsRead.{by_words, seen, has_sealed}
-use Rattle.dn_machine.proofs.PartsWalking.{merger_behind, has_walked}
+use Rattle.dn_parts.specs.Sealed.{GivesAt}
+use Rattle.dn_parts.specs.Turns.{Merges, AtWalk, AtPass, IsTurnAt, KnowTurns}
+use Rattle.dn_parts.proofs.PartsRead.{by_words, seen, has_sealed}
+use Rattle.dn_parts.proofs.PartsWalking.{merger_behind, has_walked}
 
 -- What a merger knows at the places of its turn.
 

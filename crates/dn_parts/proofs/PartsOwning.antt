@@ -46,10 +46,10 @@ use Rattle.dn_lanes.specs.Lane.{IsLaneAt}
 use Rattle.dn_lanes.specs.Phases.{IsActing, IsAt}
 use Rattle.dn_machine.specs.State.{Machine}
 use Rattle.dn_machine.specs.Sound.{IsMachineAt, IsSound}
-use Rattle.dn_machine.specs.Sealed.{IsSealedOf}
-use Rattle.dn_machine.specs.Owning.{IsInOneLog, IsClear, looked_at, look_in, HoldLooks, OwnsSlot, HasMet, IsLatestAt, KnowPending}
-use Rattle.dn_machine.proofs.PartsRead.{by_words, seen, is_clear, sealed_has, has_sealed, deed_is}
-use Rattle.dn_machine.proofs.PartsPending.{entry_has, has_entry, pending_has, has_pending}
+use Rattle.dn_parts.specs.Sealed.{IsSealedOf}
+use Rattle.dn_parts.specs.Owning.{IsInOneLog, IsClear, looked_at, look_in, HoldLooks, OwnsSlot, HasMet, IsLatestAt, KnowPending}
+use Rattle.dn_parts.proofs.PartsRead.{by_words, seen, is_clear, sealed_has, has_sealed, deed_is}
+use Rattle.dn_parts.proofs.PartsPending.{entry_has, has_entry, pending_has, has_pending}
 
 -- Owners, as a reader of words and lanes finds them.
 

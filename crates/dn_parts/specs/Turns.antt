@@ -12,8 +12,8 @@ use Rattle.dn_merge.specs.declared.places.Change.{Change}
 use Rattle.dn_merge.specs.declared.places.MergePlace.{MergePlace}
 use Rattle.dn_merge.specs.declared.places.MergePlace.TheVariants.{Gate, Mark, Directory, Header, Key, Walk, Pass}
 use Rattle.dn_machine.specs.State.{Machine}
-use Rattle.dn_machine.specs.Sealed.{IsSealed, GivesAt}
-use Rattle.dn_machine.specs.Walking.{HasWalked}
+use Rattle.dn_parts.specs.Sealed.{IsSealed, GivesAt}
+use Rattle.dn_parts.specs.Walking.{HasWalked}
 
 -- What a merger knows at the places of its turn: mark, header and key of the record that it merges.
 

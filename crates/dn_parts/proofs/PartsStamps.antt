@@ -17,8 +17,8 @@ use Rattle.dn_callers.specs.Callers.{Standing}
 use Rattle.dn_callers.proofs.Lists.{has_receipt}
 use Rattle.dn_machine.specs.State.{Machine}
 use Rattle.dn_machine.specs.Sound.{IsMachineAt, IsSound}
-use Rattle.dn_machine.specs.Stamps.{AreBound, watched_at, IsEnded, IsMergedFor, GrantsInOrder}
-use Rattle.dn_machine.proofs.PartsRead.{merged_whole, by_words, seen, sealed_has, deed_low, deed_is, owner_low}
+use Rattle.dn_parts.specs.Stamps.{AreBound, watched_at, IsEnded, IsMergedFor, GrantsInOrder}
+use Rattle.dn_parts.proofs.PartsRead.{merged_whole, by_words, seen, sealed_has, deed_low, deed_is, owner_low}
 
 -- Stamps of receipts, and what the monitor waits for.
 

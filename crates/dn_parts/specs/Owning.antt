@@ -23,7 +23,7 @@ use Rattle.dn_owners.specs.Sound.{IsHeld, Agrees}
 use Rattle.dn_learnt.specs.Heeding.{look_by}
 use Rattle.dn_lanes.specs.Calls.{key_in}
 use Rattle.dn_machine.specs.State.{Machine}
-use Rattle.dn_machine.specs.Sealed.{IsSealedOf}
+use Rattle.dn_parts.specs.Sealed.{IsSealedOf}
 
 -- Owners: who may change a key, and what they know of it.
 

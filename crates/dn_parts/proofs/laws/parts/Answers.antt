@@ -1,12 +1,12 @@
-use Rattle.dn_machine.proofs.PartsSpace.{has_space}
-use Rattle.dn_machine.proofs.PartsLogs.{have_logs}
-use Rattle.dn_machine.proofs.PartsIndex.{has_index}
-use Rattle.dn_machine.proofs.PartsOwning.{in_one_log, hold_looks, know_pending}
-use Rattle.dn_machine.proofs.PartsStamps.{are_bound, grants_in_order}
-use Rattle.dn_machine.proofs.PartsPlaces.{know_places}
-use Rattle.dn_machine.proofs.PartsTurns.{know_turns}
-use Rattle.dn_machine.proofs.PartsCells.{has_cells}
-use Rattle.dn_machine.proofs.laws.parts.Goals as goal
+use Rattle.dn_parts.proofs.PartsSpace.{has_space}
+use Rattle.dn_parts.proofs.PartsLogs.{have_logs}
+use Rattle.dn_parts.proofs.PartsIndex.{has_index}
+use Rattle.dn_parts.proofs.PartsOwning.{in_one_log, hold_looks, know_pending}
+use Rattle.dn_parts.proofs.PartsStamps.{are_bound, grants_in_order}
+use Rattle.dn_parts.proofs.PartsPlaces.{know_places}
+use Rattle.dn_parts.proofs.PartsTurns.{know_turns}
+use Rattle.dn_parts.proofs.PartsCells.{has_cells}
+use Rattle.dn_parts.proofs.laws.parts.Goals as goal
 
 pub returns-clause-space : goal.returns-clause-space
 returns-clause-space c = has_space

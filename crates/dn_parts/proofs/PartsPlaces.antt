@@ -22,13 +22,13 @@ use Rattle.dn_lanes.specs.Phases.{IsReply, KnowsReply, KnowsGate, KnowsActing, K
 use Rattle.dn_log.specs.Log.{Log, new_segment_of}
 use Rattle.dn_log.specs.declared.plans.Plan.{Plan}
 use Rattle.dn_log.specs.declared.staging.Staged.{Staged}
-use Rattle.dn_machine.proofs.PartsRead.{by_words, seen, is_clear, sealed_has, has_sealed, IsRecordAt, record_found}
-use Rattle.dn_machine.proofs.PartsWalking.{has_walked, lane_behind}
-use Rattle.dn_machine.specs.Owning.{IsClear, IsLatestAt}
-use Rattle.dn_machine.specs.Places.{located_at, located_in, raised_at, raised_in, IsReplyFor, IsSealingIn, AllMerged, KnowPlaces}
+use Rattle.dn_parts.proofs.PartsRead.{by_words, seen, is_clear, sealed_has, has_sealed, IsRecordAt, record_found}
+use Rattle.dn_parts.proofs.PartsWalking.{has_walked, lane_behind}
+use Rattle.dn_parts.specs.Owning.{IsClear, IsLatestAt}
+use Rattle.dn_parts.specs.Places.{located_at, located_in, raised_at, raised_in, IsReplyFor, IsSealingIn, AllMerged, KnowPlaces}
 use Rattle.dn_machine.specs.Sound.{IsCallOf, IsMachineAt, IsSound}
 use Rattle.dn_machine.specs.State.{Machine}
-use Rattle.dn_machine.specs.Walking.{IsBehind, HasWalked}
+use Rattle.dn_parts.specs.Walking.{IsBehind, HasWalked}
 use Rattle.dn_model.specs.Held.{Found, Says, is_authority, entry_at}
 use Rattle.dn_model.specs.Log.{Tiles}
 use Rattle.dn_model.specs.Regions.{gate_at, offsets, slot_of}

@@ -18,8 +18,8 @@ use Rattle.dn_beside.specs.Pool.{Pool, store_in, IsWhole}
 use Rattle.dn_lane2.specs.State.{LaneState}
 use Rattle.dn_machine.specs.State.{Machine}
 use Rattle.dn_machine.specs.Sound.{IsMachineAt}
-use Rattle.dn_machine.specs.Sealed.{IsSealed}
-use Rattle.dn_machine.specs.Owning.{IsClear}
+use Rattle.dn_parts.specs.Sealed.{IsSealed}
+use Rattle.dn_parts.specs.Owning.{IsClear}
 
 -- What a reader of the words finds is what the pool has.
 

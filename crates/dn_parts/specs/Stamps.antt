@@ -15,7 +15,7 @@ use Rattle.dn_owners.specs.Sound.{bound_by}
 use Rattle.dn_orders.specs.Knowing.{watch_of}
 use Rattle.dn_callers.specs.Callers.{Standing}
 use Rattle.dn_machine.specs.State.{Machine}
-use Rattle.dn_machine.specs.Sealed.{IsSealedOf}
+use Rattle.dn_parts.specs.Sealed.{IsSealedOf}
 
 -- Stamps: no change of a key comes before what was answered of it.
 

@@ -12,7 +12,7 @@ use Rattle.dn_merge.specs.Merge.{Merging}
 use Rattle.dn_merge.specs.declared.places.MergePlace.{MergePlace}
 use Rattle.dn_merge.specs.declared.places.MergePlace.TheVariants.{Gate, Mark, Directory, Header, Key as KeyOf, Walk, Pass}
 use Rattle.dn_machine.specs.State.{Machine}
-use Rattle.dn_machine.specs.Sealed.{LeadsTo}
+use Rattle.dn_parts.specs.Sealed.{LeadsTo}
 
 -- The index, as a reader of the words finds it.
 

@@ -2,8 +2,8 @@ use Rattle.std.proofs.Common.{ℕ, ◌∙◌, arith}
 use Rattle.dn_beside.specs.Pool.{Pool}
 use Rattle.dn_machine.specs.State.{Machine}
 use Rattle.dn_machine.specs.Sound.{IsMachineAt, IsSound}
-use Rattle.dn_machine.specs.Cells.{HasUnusedCells}
-use Rattle.dn_machine.proofs.PartsRead.{by_words}
+use Rattle.dn_parts.specs.Cells.{HasUnusedCells}
+use Rattle.dn_parts.proofs.PartsRead.{by_words}
 
 -- Cells that weren't claimed are zeros.
 

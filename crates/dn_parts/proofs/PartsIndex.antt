@@ -17,9 +17,9 @@ use Rattle.dn_walks.specs.Changing.{Fills, KnowsWalk}
 use Rattle.dn_turns.specs.Knows.{KnowsMerge}
 use Rattle.dn_machine.specs.State.{Machine}
 use Rattle.dn_machine.specs.Sound.{IsMachineAt, IsSound}
-use Rattle.dn_machine.specs.Sealed.{LeadsTo}
-use Rattle.dn_machine.specs.Indexed.{StandsAt, new_from, new_at, new_in, new_of, IsNew, HasIndex}
-use Rattle.dn_machine.proofs.PartsRead.{by_words, has_sealed, IsRecordAt, record_found}
+use Rattle.dn_parts.specs.Sealed.{LeadsTo}
+use Rattle.dn_parts.specs.Indexed.{StandsAt, new_from, new_at, new_in, new_of, IsNew, HasIndex}
+use Rattle.dn_parts.proofs.PartsRead.{by_words, has_sealed, IsRecordAt, record_found}
 
 -- The index, as a reader of the words finds it.
 

@@ -20,8 +20,8 @@ use Rattle.dn_lanes.specs.Lane.{IsLaneAt}
 use Rattle.dn_lanes.specs.Phases.{IsAt}
 use Rattle.dn_machine.specs.State.{Machine}
 use Rattle.dn_machine.specs.Sound.{IsMachineAt, IsSound}
-use Rattle.dn_machine.specs.Logs.{HasLog, KnowsLog, HaveLogs}
-use Rattle.dn_machine.proofs.PartsRead.{by_words, lane_of}
+use Rattle.dn_parts.specs.Logs.{HasLog, KnowsLog, HaveLogs}
+use Rattle.dn_parts.proofs.PartsRead.{by_words, lane_of}
 
 -- Logs, as a reader of the words finds them.
 

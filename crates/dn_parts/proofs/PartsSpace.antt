@@ -9,8 +9,8 @@ use Rattle.dn_reach.proofs.Within.{reach_longer, spare_last}
 use Rattle.dn_owners.proofs.Ats.{same_some}
 use Rattle.dn_machine.specs.State.{Machine}
 use Rattle.dn_machine.specs.Sound.{IsMachineAt, IsSound}
-use Rattle.dn_machine.specs.Space.{Names, Spares, Has, HasSpace}
-use Rattle.dn_machine.proofs.PartsRead.{by_words, seen, lane_of}
+use Rattle.dn_parts.specs.Space.{Names, Spares, Has, HasSpace}
+use Rattle.dn_parts.proofs.PartsRead.{by_words, seen, lane_of}
 
 -- No two lanes have the same segment.
 

@@ -1,0 +1,11 @@
+pub mod PartsRead
+pub mod PartsSpace
+pub mod PartsLogs
+pub mod PartsCells
+pub mod PartsIndex
+pub mod PartsPending
+pub mod PartsOwning
+pub mod PartsStamps
+pub mod PartsWalking
+pub mod PartsPlaces
+pub mod PartsTurns

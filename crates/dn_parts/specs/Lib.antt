@@ -1,0 +1,10 @@
+pub mod Sealed
+pub mod Space
+pub mod Logs
+pub mod Indexed
+pub mod Owning
+pub mod Stamps
+pub mod Walking
+pub mod Places
+pub mod Turns
+pub mod Cells
