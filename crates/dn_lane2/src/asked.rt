@@ -2,7 +2,7 @@
 
 ghost use Rattle.std.specs.Prelude.{◌≡◌, ◌≤◌, ◌<◌, ◌^◌};
 ghost use Rattle.dn_hist.specs.Calls.{key_of};
-ghost use Rattle.dn_lane2.specs.Asked.{kind_of, brief_of, words_in, number_in, MaySeal};
+ghost use Rattle.dn_lane2.specs.Asked.{kind_of, brief_of, view_in, words_in, number_in, MaySeal};
 
 use dn_hist::{Call, SessionView};
 use dn_plan::{Brief, Kind};
@@ -84,6 +84,16 @@ impl Asked {
         match self {
             Asked::Call { call, .. } => call_words(call),
             Asked::Nothing | Asked::Task => TASK_WORDS,
+        }
+    }
+
+    /// The number of the call's session; 0 where it is no call, which no session has.
+    pub fn session(&self) -> u32
+        ensures { result ≡ (view_in self.now).session }
+    {
+        match self {
+            Asked::Call { view, .. } => view.session,
+            Asked::Nothing | Asked::Task => 0,
         }
     }
 

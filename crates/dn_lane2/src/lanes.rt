@@ -6,6 +6,7 @@ ghost use Rattle.dn_hist.specs.Calls.{key_of};
 ghost use Rattle.dn_log.specs.Staged.{flow_of};
 ghost use Rattle.dn_tend.specs.Fit.{FitsTask};
 ghost use Rattle.dn_tend.specs.declared.tasks.TaskAnswer.{TaskAnswer};
+ghost use Rattle.dn_lane2.specs.Asked.{view_in};
 ghost use Rattle.dn_lane2.specs.State.{LaneState, fresh, reserved, begun, begun_task, first_of, halted};
 ghost use Rattle.dn_lane2.specs.Refused.{refusal_of, Refuses};
 ghost use Rattle.dn_lane2.specs.Next.{next_of};
@@ -110,6 +111,13 @@ impl Lane {
         ensures { result ≡ is_working self.now.mode }
     {
         !matches!(self.mode, Mode::Idle)
+    }
+
+    /// The number of the session whose call is under way; 0 where none is, which no session has.
+    pub fn session(&self) -> u32
+        ensures { result ≡ (view_in self.now.asked).session }
+    {
+        self.asked.session()
     }
 
     /// How many words wait to flow. None waits but where a record is sealed.
