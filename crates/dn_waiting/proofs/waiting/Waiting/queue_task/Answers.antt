@@ -1,0 +1,16 @@
+use Rattle.std.proofs.Common.{ℕ, ◌≡◌, ◌+◌, ◌<◌, ◌≤◌, ◌++◌, ◌∷◌, List, Option, Some, None, length, refl, ap, sym, subst, ◌∙◌, arith, All}
+use Rattle.dn_hist.specs.declared.receipts.SessionView.{SessionView}
+use Rattle.dn_waiting.specs.State.{WaitingState, call_of, at_lane}
+use Rattle.dn_waiting.specs.Queues.{AtLane, attempts_at}
+use Rattle.dn_waiting.specs.Sound.{IsSound, IsLoading, Shows}
+use Rattle.std.proofs.Common.{OnOk, OnErr, Result, Ok, Err}
+use Rattle.dn_word.specs.declared.memory.OutOfMemory.{OutOfMemory}
+use Rattle.dn_tend.specs.declared.tasks.Task.{Task}
+use Rattle.dn_waiting.specs.Queues.{with_task}
+use Rattle.dn_waiting.proofs.Joined.{tasks_joined, made_of}
+use Rattle.dn_waiting.proofs.waiting.Waiting.queue_task.Goals as goal
+
+pub invariant_of-self : goal.invariant_of-self
+invariant_of-self c =
+    let w : WaitingState = record { calls = c.self.inside.calls.items; lanes = c.self.inside.lanes.items } in
+    by_result w c.args.lane c.index_mut.result.now c.queue_task.new.self c.args.task c.queue_task.result c.self.invariant c.requires c.index_mut.ensures.value c.queue_task.ensures.ok c.queue_task.ensures.err

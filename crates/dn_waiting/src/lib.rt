@@ -1,0 +1,12 @@
+//! What waits: the calls of sessions between their start and their end, how their attempts go on, and the queues of
+//! lanes.
+#![tactic(auto)]
+
+mod attempts;
+mod calls;
+mod queues;
+mod stops;
+mod waiting;
+
+pub use calls::{AttemptEnd, Course, Next, OpenCall, Place};
+pub use waiting::Waiting;
