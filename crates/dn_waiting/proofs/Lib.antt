@@ -6,3 +6,5 @@ pub mod Ranges
 pub mod Kept
 pub mod Stopping
 pub mod Joined
+pub mod Changes
+pub mod PlaceLaws

@@ -23,7 +23,7 @@ shown_inside w view sound h = by_case (cases_lt view.session (length w.calls))
     by_case (inl x) = omega (arith, x, sound.sessions)
     by_case (inr x) = absurd (shows_some view (call_of w view.session) h (get_or_past w.calls view.session None x))
 
-once_most : (b : Bool) → cond b 1 0 ≤ 1
+pub once_most : (b : Bool) → cond b 1 0 ≤ 1
 once_most true = omega arith
 once_most false = omega arith
 

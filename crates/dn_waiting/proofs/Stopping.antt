@@ -117,7 +117,7 @@ stop_queues w l sound h m k =
     by_lane (λ q. how_often k q.queue ≡ cond (waits_at m (call_of (stopped w l) k)) 1 0) w l idle m (omega (arith, sound.made, h))
     (λ e. same e (after_stop w l k sound)) (λ d. other d (after_stop w l k sound))
   where
-    same : m ≡ l → Gone w l k ⊎ Stays w l k → 0 ≡ cond (waits_at m (call_of (stopped w l) k)) 1 0
+    same : m ≡ l → Gone w l k ⊎ Stays w l k → ◌≡◌ {A = ℕ} 0 (cond (waits_at m (call_of (stopped w l) k)) 1 0)
     same e (inl x) = sym (ap (λ o. cond {A = ℕ} (waits_at m o) 1 0) x.now)
     same e (inr x) = sym (ap (λ o. cond {A = ℕ} (waits_at m o) 1 0) x.now ∙ (ap (λ n. cond {A = ℕ} (waits_at n (call_of w k)) 1 0) e ∙ ap (λ (b : Bool). cond {A = ℕ} b 1 0) x.waits))
 
@@ -183,12 +183,15 @@ stopped_sound w l sound h = record {
 abbrev pub none_of : ℕ → ℕ → WaitingState
 none_of sessions lanes = record { calls = replicate sessions None; lanes = replicate lanes idle }
 
-no_call : (n k : ℕ) → get_or (replicate n (None {A = OpenCall})) k None ≡ None
+abbrev no_one : Option OpenCall
+no_one = None
+
+no_call : (n k : ℕ) → get_or (replicate n no_one) k no_one ≡ no_one
 no_call n k = by_case (cases_lt k n)
   where
-    by_case : (k < n) ⊎ (n ≤ k) → get_or (replicate n None) k None ≡ None
-    by_case (inl x) = get_or-replicate n k None None x
-    by_case (inr x) = get_or_past (replicate n None) k None (omega (arith, length-replicate {A = Option OpenCall} n None, x))
+    by_case : (k < n) ⊎ (n ≤ k) → get_or (replicate n no_one) k no_one ≡ no_one
+    by_case (inl x) = get_or-replicate n k no_one no_one x
+    by_case (inr x) = get_or_past (replicate n no_one) k no_one (omega (arith, length-replicate n no_one, x))
 
 no_lane : (n m : ℕ) → get_or (replicate n idle) m idle ≡ idle
 no_lane n m = by_case (cases_lt m n)

@@ -1,4 +1,4 @@
-use Rattle.std.specs.Prelude.{ℕ, List, [], ◌∷◌, Some, set, if◌then◌else◌}
+use Rattle.std.specs.Prelude.{ℕ, zero, suc, List, [], ◌∷◌, Some, set, if◌then◌else◌}
 use Rattle.dn_hist.specs.declared.receipts.SessionView.{SessionView}
 use Rattle.dn_tend.specs.declared.tasks.Task.{Task}
 use Rattle.dn_tend.specs.declared.tasks.Task.TheVariants.{Release}
@@ -47,3 +47,8 @@ tasked w lane task = with_lane w lane (with_task (at_lane w lane) task)
 -- a release arrives, unless one of the slot waits
 abbrev pub released : WaitingState → ℕ → ℕ → WaitingState
 released w lane slot = if is_queued slot (at_lane w lane).tasks then w else tasked w lane (Release slot)
+
+-- what a lane takes up in so many turns at which nothing arrives
+abbrev pub turns : ℕ → AtLane → List Next
+turns zero at = []
+turns (suc n) at = next_at at ∷ turns n (left_at at)

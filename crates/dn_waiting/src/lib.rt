@@ -4,8 +4,11 @@
 
 mod attempts;
 mod calls;
+pub mod laws;
 mod queues;
 mod stops;
+#[cfg(test)]
+mod tests;
 mod waiting;
 
 pub use calls::{AttemptEnd, Course, Next, OpenCall, Place};

@@ -8,13 +8,8 @@ use crate::queues::Queues;
 use dn_hist::SessionView;
 
 /// Ends the calls of all attempts at a lane and adds them to `ended`, and drops its tasks.
-pub fn end_all(
-    calls: &mut Vec<Option<OpenCall>>,
-    at: &mut Queues,
-    ended: &mut Vec<(u32, u32)>,
-)
-    requires inside {
-        All (λ (v : SessionView). v.session < vec_len calls.old) (attempts_at at.old) }
+pub fn end_all(calls: &mut Vec<Option<OpenCall>>, at: &mut Queues, ended: &mut Vec<(u32, u32)>)
+    requires inside { All (λ (v : SessionView). v.session < vec_len calls.old) (attempts_at at.old) }
     requires room { vec_len ended.old + length (attempts_at at.old) ≤ vec_capacity ended.old }
     ensures calls { calls.new.items ≡ without calls.old.items (attempts_at at.old) }
     ensures at { at.new ≡ idle }

@@ -3,7 +3,7 @@ ghost use Rattle.std.specs.Option.{option_copied};
 ghost use Rattle.dn_waiting.specs.Attempts.{opened, queued, refused, started, at_first, course_to, loaded, after_load, named_in, course_loaded, unloaded, course_refused, answered, course_at};
 ghost use Rattle.dn_waiting.specs.Queues.{idle, is_queued};
 ghost use Rattle.dn_waiting.specs.State.{nothing_waits, call_of, at_lane};
-ghost use Rattle.dn_waiting.specs.Sound.{IsSession, IsLane, IsLaneOrNone, IsLoading, Shows};
+ghost use Rattle.dn_waiting.specs.Sound.{IsSound, IsSession, IsLane, IsLaneOrNone, IsLoading, Shows};
 ghost use Rattle.dn_waiting.specs.Stops.{calls_at, stopped, waiting_from};
 ghost use Rattle.dn_waiting.specs.Turns.{next_at, taken_up, tasked, released};
 
@@ -79,13 +79,7 @@ impl Waiting {
     ///
     /// Without a route the deed is loaded first, be a lane named or not. Else the first attempt waits at the lane that is
     /// named, or at the route's.
-    pub fn start(
-        &mut self,
-        call: Call,
-        view: SessionView,
-        lane: Option<u8>,
-        route: u8,
-    ) -> Course
+    pub fn start(&mut self, call: Call, view: SessionView, lane: Option<u8>, route: u8) -> Course
         requires session { IsSession view.session }
         requires free { call_of self.old view.session ≡ None }
         requires lane { IsLaneOrNone lane }
@@ -215,8 +209,7 @@ impl Waiting {
     /// Where an attempt went to a lane that had been stopped before, a further stop ends it alone.
     pub fn stop(&mut self, lane: u8, ended: &mut Vec<(u32, u32)>)
         requires lane { IsLane lane }
-        requires room {
-            vec_len ended.old + length (calls_at self.old lane) ≤ vec_capacity ended.old }
+        requires room { vec_len ended.old + length (calls_at self.old lane) ≤ vec_capacity ended.old }
         ensures after { self.new ≡ stopped self.old lane }
         ensures ended { ended.new.items ≡ ended.old.items ++ calls_at self.old lane }
     {
@@ -235,6 +228,13 @@ impl Waiting {
             }
         }
         Ok(waiting)
+    }
+
+    /// What waits is sound, which contracts of `laws` speak of. It does nothing.
+    pub fn sound(&self)
+        ensures { IsSound self.now }
+    {
+        let _ = &self.calls;
     }
 
     /// The session has this call, whose deed is to be loaded.
@@ -261,10 +261,12 @@ impl Waiting {
         ensures lane { IsLaneOrNone result }
     {
         match &self.calls[session as usize] {
-            Some(OpenCall {
-                place: Place::Loading { named },
-                ..
-            }) => *named,
+            Some(
+                OpenCall {
+                    place: Place::Loading { named },
+                    ..
+                },
+            ) => *named,
             _ => None,
         }
     }

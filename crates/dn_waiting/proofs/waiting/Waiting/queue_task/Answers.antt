@@ -1,14 +1,17 @@
-use Rattle.std.proofs.Common.{ℕ, ◌≡◌, ◌+◌, ◌<◌, ◌≤◌, ◌++◌, ◌∷◌, List, Option, Some, None, length, refl, ap, sym, subst, ◌∙◌, arith, All}
+use Rattle.std.proofs.Common.{ℕ, ◌≡◌, ◌+◌, ◌<◌, ◌≤◌, ◌++◌, ◌∷◌, List, [], OnOk, OnErr, Result, Ok, Err, set, get_or, Option, Some, None, length, refl, ap, sym, subst, ◌∙◌, arith, All}
 use Rattle.dn_hist.specs.declared.receipts.SessionView.{SessionView}
 use Rattle.dn_waiting.specs.State.{WaitingState, call_of, at_lane}
 use Rattle.dn_waiting.specs.Queues.{AtLane, attempts_at}
-use Rattle.dn_waiting.specs.Sound.{IsSound, IsLoading, Shows}
-use Rattle.std.proofs.Common.{OnOk, OnErr, Result, Ok, Err}
-use Rattle.dn_word.specs.declared.memory.OutOfMemory.{OutOfMemory}
+use Rattle.dn_waiting.specs.Sound.{IsSound, IsLane, IsLoading, Shows}
 use Rattle.dn_tend.specs.declared.tasks.Task.{Task}
 use Rattle.dn_waiting.specs.Queues.{with_task}
 use Rattle.dn_waiting.proofs.Joined.{tasks_joined, made_of}
 use Rattle.dn_waiting.proofs.waiting.Waiting.queue_task.Goals as goal
+
+by_result : {X E : Type 0} (w : WaitingState) (l : ℕ) (q r : AtLane) (task : Task) (o : Result X E) → IsSound w → IsLane l → q ≡ get_or w.lanes l q
+    → OnOk o (r ≡ with_task q task) → OnErr o (r ≡ q) → IsSound (made_of w.calls (set w.lanes l r))
+by_result w l q r task (Ok x) sound h there ok err = tasks_joined w l q r (q.tasks ++ task ∷ []) sound h there ok
+by_result w l q r task (Err x) sound h there ok err = tasks_joined w l q r q.tasks sound h there err
 
 pub invariant_of-self : goal.invariant_of-self
 invariant_of-self c =

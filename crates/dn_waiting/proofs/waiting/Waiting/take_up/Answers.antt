@@ -10,8 +10,11 @@ use Rattle.dn_waiting.proofs.waiting.Waiting.take_up.Goals as goal
 pub move_to-requires : goal.move_to-requires
 move_to-requires c =
     let w : WaitingState = record { calls = c.self.inside.calls.items; lanes = c.self.inside.lanes.items } in
-    omega (arith, c.self.invariant.sessions,
-    try_inside w c.args.lane c.index_mut.result.now c.in-Try.view c.self.invariant c.requires.lane c.index_mut.ensures.value (sym c.take_up-next.ensures.value ∙ c.in-Try.is))
+    omega (
+      arith,
+      c.self.invariant.sessions,
+      try_inside w c.args.lane c.index_mut.result.now c.in-Try.view c.self.invariant c.requires.lane c.index_mut.ensures.value (sym c.take_up-next.ensures.value ∙ c.in-Try.is),
+    )
 
 pub invariant_of-self : goal.invariant_of-self
 invariant_of-self c =
