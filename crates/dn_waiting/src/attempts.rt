@@ -13,10 +13,9 @@ const LAST: u8 = 7;
 pub fn first_lane(named: Option<u8>, route: u8) -> Option<u8>
     ensures { result ≡ at_first named route }
 {
-    if route == 0 {
-        None
-    } else {
-        Some(named.unwrap_or(route))
+    match route {
+        0 => None,
+        _ => Some(named.unwrap_or(route)),
     }
 }
 

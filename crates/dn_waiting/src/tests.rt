@@ -1,16 +1,39 @@
-//! Sessions 1 to 9 with calls on key 7, each with the number 10 times its session's at first. What is expected was worked
-//! out by hand from what the calls promise in words.
+//! Sessions 1 to 9 with calls on key 7; the number of a session's first call is 10 times the session's. What is expected
+//! was worked out by hand from what the calls promise in words.
 
-ghost use Rattle.std.specs.Prelude.{◌≡◌, ◌≤◌, IsTrue};
+ghost use Rattle.std.specs.Prelude.{◌≡◌, IsTrue};
 ghost use Rattle.std.specs.Option.{option_copied};
 ghost use Rattle.dn_waiting.specs.Sound.{IsSession, IsLane, IsLaneOrNone, IsLoading, Shows};
 
 use crate::{AttemptEnd, Course, Next, OpenCall, Place, Waiting};
 use dn_hist::{Call, SessionView};
 use dn_tend::Task;
-use dn_word::Position;
+use dn_word::{OutOfMemory, Position};
 use std::process::Abort;
 use std::test::Fail;
+
+/// What is done, and what comes of it. A view is told by its session and its number.
+#[derive(Clone, Copy)]
+enum Step {
+    /// A call of a session that has none begins: its view, the lane of its line, its route.
+    Start(u32, u32, Option<u8>, u8, Course),
+    /// The deed of a session's call is loaded: its view, its route.
+    Load(u32, u32, u8, Course),
+    /// That load fails.
+    Fail(u32, u32, Course),
+    /// A lane without an attempt under way takes up an attempt.
+    Try(u8, u32, u32),
+    /// It takes up a task.
+    Tend(u8, Task),
+    /// Nothing waits there.
+    Rest(u8),
+    /// The attempt under way at a lane ends.
+    End(u8, AttemptEnd, Course),
+    /// A task arrives at a lane.
+    Queue(u8, Task),
+    /// A release of a slot does.
+    Release(u8, u8),
+}
 
 /// The view that a session shows with its call of this number.
 fn view(session: u32, number: u32) -> SessionView
@@ -45,43 +68,63 @@ fn is_loading(call: Option<&OpenCall>, view: &SessionView) -> bool
     }
 }
 
-/// A call of a session that has none begins.
+/// Whether a session has this number.
+fn is_session(session: u32) -> bool
+    ensures { IsTrue result → IsSession session }
+{
+    1 <= session && session <= 1000
+}
+
+/// Whether a lane has this number.
+fn is_lane(lane: u8) -> bool
+    ensures { IsTrue result → IsLane lane }
+{
+    1 <= lane && lane <= 63
+}
+
+/// Whether it is a lane's number, where there is one.
+fn is_lane_or_none(lane: Option<u8>) -> bool
+    ensures { IsTrue result → IsLaneOrNone lane }
+{
+    match lane {
+        Some(lane) => is_lane(lane),
+        None => true,
+    }
+}
+
+/// A call begins.
 fn start(
     rt: &impl Abort,
     waiting: &mut Waiting,
     view: SessionView,
     lane: Option<u8>,
     route: u8,
-) -> Course
-    requires session { IsSession view.session }
-    requires lane { IsLaneOrNone lane }
-    requires route { route ≤ 63 }
-{
+) -> Course {
+    assert!(rt; is_session(view.session));
+    assert!(rt; is_lane_or_none(lane));
+    assert!(rt; route <= 63);
     assert!(rt; waiting.call(view.session).is_none());
     waiting.start(Call::Delete { key: 7 }, view, lane, route)
 }
 
 /// The deed of a session's call is loaded.
-fn load(rt: &impl Abort, waiting: &mut Waiting, view: SessionView, route: u8) -> Course
-    requires session { IsSession view.session }
-    requires route { route ≤ 63 }
-{
+fn load(rt: &impl Abort, waiting: &mut Waiting, view: SessionView, route: u8) -> Course {
+    assert!(rt; is_session(view.session));
+    assert!(rt; route <= 63);
     assert!(rt; is_loading(waiting.call(view.session), &view));
     waiting.loaded(view, route)
 }
 
 /// That load fails.
-fn fail(rt: &impl Abort, waiting: &mut Waiting, view: SessionView) -> Course
-    requires { IsSession view.session }
-{
+fn fail(rt: &impl Abort, waiting: &mut Waiting, view: SessionView) -> Course {
+    assert!(rt; is_session(view.session));
     assert!(rt; is_loading(waiting.call(view.session), &view));
     waiting.load_failed(view.session)
 }
 
-/// A lane without an attempt under way takes up what is next, which it was told before.
-fn take(rt: &impl Abort, waiting: &mut Waiting, lane: u8) -> Next
-    requires { IsLane lane }
-{
+/// A lane takes up what is next, which it was told before.
+fn take(rt: &impl Abort, waiting: &mut Waiting, lane: u8) -> Next {
+    assert!(rt; is_lane(lane));
     assert!(rt; waiting.begun(lane).is_none());
     let next = waiting.next_for(lane);
     let taken = waiting.take_up(lane);
@@ -90,120 +133,207 @@ fn take(rt: &impl Abort, waiting: &mut Waiting, lane: u8) -> Next
 }
 
 /// The attempt under way at a lane ends.
-fn end(rt: &impl Abort, waiting: &mut Waiting, lane: u8, end: AttemptEnd) -> Course
-    requires { IsLane lane }
-{
+fn end(rt: &impl Abort, waiting: &mut Waiting, lane: u8, end: AttemptEnd) -> Course {
+    assert!(rt; is_lane(lane));
     assert!(rt; waiting.begun(lane).is_some());
     waiting.answered(lane, end)
+}
+
+/// A task arrives at a lane.
+fn arrive(
+    rt: &impl Abort,
+    waiting: &mut Waiting,
+    lane: u8,
+    task: Task,
+) -> Result<(), OutOfMemory> {
+    assert!(rt; is_lane(lane));
+    waiting.queue_task(lane, task)
+}
+
+/// A release of a slot does, which waits from then on.
+fn release(rt: &impl Abort, waiting: &mut Waiting, lane: u8, slot: u8) {
+    assert!(rt; is_lane(lane));
+    assert!(rt; slot < 64);
+    waiting.queue_release(lane, slot);
+    assert!(rt; waiting.is_queued(lane, slot));
+}
+
+/// A lane is stopped: these calls end there.
+fn stop(
+    rt: &impl Abort,
+    waiting: &mut Waiting,
+    ended: &mut Vec<(u32, u32)>,
+    lane: u8,
+) -> Result<(), OutOfMemory> {
+    assert!(rt; is_lane(lane));
+    ended.reserve(waiting.calls_at(lane))?;
+    waiting.stop(lane, ended);
+    Ok(())
+}
+
+/// Does a step and compares what comes of it.
+fn play(rt: &impl Abort, waiting: &mut Waiting, step: Step) -> Result<(), OutOfMemory> {
+    match step {
+        Step::Start(session, number, lane, route, course) => {
+            assert!(rt; start(rt, waiting, view(session, number), lane, route) == course);
+        }
+        Step::Load(session, number, route, course) => {
+            assert!(rt; load(rt, waiting, view(session, number), route) == course);
+        }
+        Step::Fail(session, number, course) => {
+            assert!(rt; fail(rt, waiting, view(session, number)) == course);
+        }
+        Step::Try(lane, session, number) => {
+            assert!(rt; take(rt, waiting, lane) == Next::Try(view(session, number)));
+        }
+        Step::Tend(lane, task) => assert!(rt; take(rt, waiting, lane) == Next::Tend(task)),
+        Step::Rest(lane) => assert!(rt; take(rt, waiting, lane) == Next::Rest),
+        Step::End(lane, how, course) => {
+            assert!(rt; end(rt, waiting, lane, how) == course);
+        }
+        Step::Queue(lane, task) => arrive(rt, waiting, lane, task)?,
+        Step::Release(lane, slot) => release(rt, waiting, lane, slot),
+    }
+    Ok(())
+}
+
+/// Does steps one after another.
+fn play_all(
+    rt: &impl Abort,
+    waiting: &mut Waiting,
+    steps: &[Step],
+) -> Result<(), OutOfMemory> {
+    for step in steps {
+        play(rt, waiting, *step)?;
+    }
+    Ok(())
 }
 
 #[test]
 fn lanes_of_attempts(rt: HostRuntime) -> Result<(), Fail> {
     let mut waiting = Waiting::new(rt.alloc())?;
-    let wait = |lane| Course::Wait { lane };
-    assert_eq!(rt; start(&rt, &mut waiting, view(5, 50), None, 3), wait(3));
-    assert_eq!(rt; start(&rt, &mut waiting, view(6, 60), Some(9), 3), wait(9));
-    assert_eq!(rt; start(&rt, &mut waiting, view(7, 70), Some(9), 0), Course::Load);
-    assert_eq!(rt; start(&rt, &mut waiting, view(8, 80), None, 0), Course::Load);
-    assert_eq!(rt; load(&rt, &mut waiting, view(7, 70), 0), wait(9));
-    assert_eq!(rt; load(&rt, &mut waiting, view(8, 80), 4), wait(4));
-    assert_eq!(rt; take(&rt, &mut waiting, 9), Next::Try(view(6, 60)));
-    assert_eq!(rt; end(&rt, &mut waiting, 9, AttemptEnd::Refused), Course::Load);
-    assert_eq!(rt; load(&rt, &mut waiting, view(6, 60), 4), wait(4));
-    assert_eq!(rt; take(&rt, &mut waiting, 9), Next::Try(view(7, 70)));
-    assert_eq!(rt; take(&rt, &mut waiting, 4), Next::Try(view(8, 80)));
-    assert_eq!(rt; end(&rt, &mut waiting, 4, AttemptEnd::Made), Course::Answered);
-    assert_eq!(rt; take(&rt, &mut waiting, 4), Next::Try(view(6, 60)));
-    assert_eq!(rt; end(&rt, &mut waiting, 4, AttemptEnd::Spent), Course::GivenUp);
+    let steps = [
+        Step::Start(5, 50, None, 3, Course::Wait { lane: 3 }),
+        Step::Start(6, 60, Some(9), 3, Course::Wait { lane: 9 }),
+        Step::Start(7, 70, Some(9), 0, Course::Load),
+        Step::Start(8, 80, None, 0, Course::Load),
+        Step::Load(7, 70, 0, Course::Wait { lane: 9 }),
+        Step::Load(8, 80, 4, Course::Wait { lane: 4 }),
+        Step::Try(9, 6, 60),
+        Step::End(9, AttemptEnd::Refused, Course::Load),
+        Step::Load(6, 60, 4, Course::Wait { lane: 4 }),
+        Step::Try(9, 7, 70),
+        Step::Try(4, 8, 80),
+        Step::End(4, AttemptEnd::Made, Course::Answered),
+        Step::Try(4, 6, 60),
+        Step::End(4, AttemptEnd::Spent, Course::GivenUp),
+        Step::Start(8, 81, None, 4, Course::Wait { lane: 4 }),
+    ];
+    play_all(&rt, &mut waiting, &steps)?;
     let left = waiting.waiting(rt.alloc())?;
-    assert_eq!(rt; left.as_slice(), [(5, 50), (7, 70)].as_slice());
-    assert_eq!(rt; start(&rt, &mut waiting, view(8, 81), None, 4), wait(4));
+    assert!(rt; left.as_slice() == [(5, 50), (7, 70), (8, 81)].as_slice());
     Ok(())
 }
 
 #[test]
 fn eight_refused_attempts(rt: HostRuntime) -> Result<(), Fail> {
     let mut waiting = Waiting::new(rt.alloc())?;
-    let wait = |lane| Course::Wait { lane };
-    assert_eq!(rt; start(&rt, &mut waiting, view(1, 10), Some(2), 3), wait(2));
+    let first = [Step::Start(1, 10, Some(2), 3, Course::Wait { lane: 2 })];
+    play_all(&rt, &mut waiting, &first)?;
+    let refused = [
+        Step::Try(2, 1, 10),
+        Step::End(2, AttemptEnd::Refused, Course::Load),
+        Step::Load(1, 10, 2, Course::Wait { lane: 2 }),
+    ];
     for _ in 0..7 {
-        assert_eq!(rt; take(&rt, &mut waiting, 2), Next::Try(view(1, 10)));
-        assert_eq!(rt; end(&rt, &mut waiting, 2, AttemptEnd::Refused), Course::Load);
-        assert_eq!(rt; load(&rt, &mut waiting, view(1, 10), 2), wait(2));
+        play_all(&rt, &mut waiting, &refused)?;
     }
-    assert_eq!(rt; take(&rt, &mut waiting, 2), Next::Try(view(1, 10)));
-    assert_eq!(rt; end(&rt, &mut waiting, 2, AttemptEnd::Refused), Course::GivenUp);
-    assert_eq!(rt; waiting.calls_at(2), 0);
-    assert_eq!(rt; start(&rt, &mut waiting, view(1, 11), Some(9), 0), Course::Load);
-    for _ in 0..3 {
-        assert_eq!(rt; fail(&rt, &mut waiting, view(1, 11)), Course::Load);
-    }
-    assert_eq!(rt; load(&rt, &mut waiting, view(1, 11), 5), wait(9));
-    assert_eq!(rt; take(&rt, &mut waiting, 9), Next::Try(view(1, 11)));
-    assert_eq!(rt; end(&rt, &mut waiting, 9, AttemptEnd::Refused), Course::Load);
-    for _ in 0..3 {
-        assert_eq!(rt; load(&rt, &mut waiting, view(1, 11), 0), Course::Load);
-    }
-    assert_eq!(rt; load(&rt, &mut waiting, view(1, 11), 0), Course::GivenUp);
-    assert_eq!(rt; waiting.waiting(rt.alloc())?.len(), 0);
+    let last = [
+        Step::Try(2, 1, 10),
+        Step::End(2, AttemptEnd::Refused, Course::GivenUp),
+        Step::Rest(2),
+    ];
+    play_all(&rt, &mut waiting, &last)?;
+    Ok(())
+}
+
+#[test]
+fn loads_are_refused(rt: HostRuntime) -> Result<(), Fail> {
+    let mut waiting = Waiting::new(rt.alloc())?;
+    let steps = [
+        Step::Start(1, 11, Some(9), 0, Course::Load),
+        Step::Fail(1, 11, Course::Load),
+        Step::Fail(1, 11, Course::Load),
+        Step::Fail(1, 11, Course::Load),
+        Step::Load(1, 11, 5, Course::Wait { lane: 9 }),
+        Step::Try(9, 1, 11),
+        Step::End(9, AttemptEnd::Refused, Course::Load),
+        Step::Load(1, 11, 0, Course::Load),
+        Step::Load(1, 11, 0, Course::Load),
+        Step::Fail(1, 11, Course::Load),
+        Step::Load(1, 11, 0, Course::GivenUp),
+    ];
+    play_all(&rt, &mut waiting, &steps)?;
+    let left = waiting.waiting(rt.alloc())?;
+    assert!(rt; left.is_empty());
     Ok(())
 }
 
 #[test]
 fn tasks_before_calls(rt: HostRuntime) -> Result<(), Fail> {
     let mut waiting = Waiting::new(rt.alloc())?;
-    let wait = Course::Wait { lane: 63 };
-    assert_eq!(rt; start(&rt, &mut waiting, view(2, 20), None, 63), wait);
-    waiting.queue_task(63, Task::Trim)?;
-    waiting.queue_release(63, 7);
-    waiting.queue_task(63, Task::Share { key: 7 })?;
-    assert_eq!(rt; start(&rt, &mut waiting, view(1, 10), None, 63), wait);
-    waiting.queue_release(63, 7);
-    waiting.queue_release(63, 0);
-    assert!(rt; waiting.is_queued(63, 0) && !waiting.is_queued(63, 1));
-    assert!(rt; !waiting.is_queued(62, 0));
-    for next in [
-        Next::Tend(Task::Trim),
-        Next::Tend(Task::Release { slot: 7 }),
-        Next::Tend(Task::Share { key: 7 }),
-        Next::Tend(Task::Release { slot: 0 }),
-        Next::Try(view(2, 20)),
-    ] {
-        assert_eq!(rt; take(&rt, &mut waiting, 63), next);
-    }
-    waiting.queue_release(63, 7);
-    assert_eq!(rt; waiting.begun(63), Some(view(2, 20)));
-    assert_eq!(rt; end(&rt, &mut waiting, 63, AttemptEnd::Made), Course::Answered);
-    assert_eq!(rt; take(&rt, &mut waiting, 63), Next::Tend(Task::Release { slot: 7 }));
-    assert_eq!(rt; take(&rt, &mut waiting, 63), Next::Try(view(1, 10)));
-    assert_eq!(rt; end(&rt, &mut waiting, 63, AttemptEnd::Made), Course::Answered);
-    assert_eq!(rt; take(&rt, &mut waiting, 63), Next::Rest);
+    let steps = [
+        Step::Start(2, 20, None, 63, Course::Wait { lane: 63 }),
+        Step::Queue(63, Task::Trim),
+        Step::Release(63, 7),
+        Step::Queue(63, Task::Share { key: 7 }),
+        Step::Start(1, 10, None, 63, Course::Wait { lane: 63 }),
+        Step::Release(63, 7),
+        Step::Release(63, 0),
+        Step::Tend(63, Task::Trim),
+        Step::Tend(63, Task::Release { slot: 7 }),
+        Step::Tend(63, Task::Share { key: 7 }),
+        Step::Tend(63, Task::Release { slot: 0 }),
+        Step::Try(63, 2, 20),
+        Step::Release(63, 7),
+        Step::End(63, AttemptEnd::Made, Course::Answered),
+        Step::Tend(63, Task::Release { slot: 7 }),
+        Step::Try(63, 1, 10),
+        Step::End(63, AttemptEnd::Made, Course::Answered),
+        Step::Rest(63),
+    ];
+    play_all(&rt, &mut waiting, &steps)?;
     Ok(())
 }
 
 #[test]
 fn a_lane_is_stopped(rt: HostRuntime) -> Result<(), Fail> {
     let mut waiting = Waiting::new(rt.alloc())?;
-    let wait = |lane| Course::Wait { lane };
-    for (session, lane) in [(9, 5), (3, 5), (4, 6), (2, 5)] {
-        let view = view(session, session * 10);
-        assert_eq!(rt; start(&rt, &mut waiting, view, Some(lane), 1), wait(lane));
-    }
-    assert_eq!(rt; start(&rt, &mut waiting, view(6, 60), Some(5), 0), Course::Load);
-    assert_eq!(rt; take(&rt, &mut waiting, 5), Next::Try(view(9, 90)));
-    waiting.queue_task(5, Task::Trim)?;
+    let steps = [
+        Step::Start(9, 90, None, 5, Course::Wait { lane: 5 }),
+        Step::Start(3, 30, Some(5), 1, Course::Wait { lane: 5 }),
+        Step::Start(4, 40, None, 6, Course::Wait { lane: 6 }),
+        Step::Start(2, 20, Some(5), 1, Course::Wait { lane: 5 }),
+        Step::Start(6, 60, Some(5), 0, Course::Load),
+        Step::Try(5, 9, 90),
+        Step::Queue(5, Task::Trim),
+    ];
+    play_all(&rt, &mut waiting, &steps)?;
     let mut ended = Vec::new(rt.alloc());
     ended.push((1, 10))?;
-    ended.reserve(waiting.calls_at(5))?;
-    waiting.stop(5, &mut ended);
-    assert_eq!(rt; ended.as_slice(), [(1, 10), (9, 90), (3, 30), (2, 20)].as_slice());
-    assert_eq!(rt; waiting.waiting(rt.alloc())?.as_slice(), [(4, 40), (6, 60)].as_slice());
-    assert_eq!(rt; take(&rt, &mut waiting, 5), Next::Rest);
-    assert_eq!(rt; load(&rt, &mut waiting, view(6, 60), 6), wait(5));
+    stop(&rt, &mut waiting, &mut ended, 5)?;
+    assert!(rt; ended.as_slice() == [(1, 10), (9, 90), (3, 30), (2, 20)].as_slice());
+    let left = waiting.waiting(rt.alloc())?;
+    assert!(rt; left.as_slice() == [(4, 40), (6, 60)].as_slice());
+    let steps = [
+        Step::Rest(5),
+        Step::Start(9, 91, None, 6, Course::Wait { lane: 6 }),
+        Step::Load(6, 60, 6, Course::Wait { lane: 5 }),
+        Step::Try(6, 4, 40),
+    ];
+    play_all(&rt, &mut waiting, &steps)?;
     ended.clear();
-    ended.reserve(waiting.calls_at(5))?;
-    waiting.stop(5, &mut ended);
-    assert_eq!(rt; ended.as_slice(), [(6, 60)].as_slice());
-    assert_eq!(rt; take(&rt, &mut waiting, 6), Next::Try(view(4, 40)));
+    stop(&rt, &mut waiting, &mut ended, 5)?;
+    assert!(rt; ended.as_slice() == [(6, 60)].as_slice());
     Ok(())
 }
