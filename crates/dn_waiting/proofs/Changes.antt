@@ -1,5 +1,4 @@
-use Rattle.std.proofs.Common.{ℕ, ◌≡◌, ◌≢◌, ◌+◌, ◌<◌, ◌≤◌, ◌==◌, ◌⊎◌, inl, inr, Bool, true, false, List, [], ◌∷◌, ◌++◌, zero, suc, cond, Option, Some, None, set, get_or, map, length, refl, sym, ap, subst, ◌∙◌, arith, Contains}
-use Rattle.std.proofs.lemmas.Bool.{eq-eqb, eqb-true}
+use Rattle.std.proofs.Common.{ℕ, ◌≡◌, ◌+◌, ◌<◌, ◌≤◌, ◌==◌, Bool, true, false, List, [], ◌∷◌, ◌++◌, zero, suc, cond, Option, Some, None, map, length, refl, sym, ap, subst, ◌∙◌, arith}
 use Rattle.std.proofs.lemmas.List.{get_or-set_same}
 use Rattle.dn_hist.specs.declared.calls.Call.{Call}
 use Rattle.dn_hist.specs.declared.receipts.SessionView.{SessionView}
@@ -9,13 +8,12 @@ use Rattle.dn_waiting.specs.declared.calls.OpenCall.{OpenCall}
 use Rattle.dn_waiting.specs.declared.calls.Place.{Place}
 use Rattle.dn_waiting.specs.declared.calls.Place.TheVariants.{Loading, Queued, Begun}
 use Rattle.dn_waiting.specs.declared.calls.AttemptEnd.{AttemptEnd}
-use Rattle.dn_waiting.specs.declared.calls.Next.{Next}
-use Rattle.dn_waiting.specs.declared.calls.Next.TheVariants.{Rest, Tend, Try}
-use Rattle.dn_waiting.specs.Queues.{AtLane, idle, is_queued}
+use Rattle.dn_waiting.specs.declared.calls.Next.TheVariants.{Tend, Try}
+use Rattle.dn_waiting.specs.Queues.{AtLane, is_queued}
 use Rattle.dn_waiting.specs.State.{WaitingState, call_of, at_lane, with_lane, nothing_waits}
-use Rattle.dn_waiting.specs.Attempts.{placed, by_route, named_or, at_first, after_load, named_at, named_in, opened, begun_to, started, queued, loaded_to, loaded, unloaded, settled_of, answered}
-use Rattle.dn_waiting.specs.Turns.{next_of, next_at, left_of, left_at, taken, taken_up, tasked, released, turns}
-use Rattle.dn_waiting.specs.Sound.{IsSound, IsSession, IsLane, IsLaneOrNone, IsLoading, IsAtLoad, IsOpenCall, HasLane, Shows, how_often, waits_at, runs_at}
+use Rattle.dn_waiting.specs.Attempts.{placed, by_route, named_or, at_first, after_load, named_at, named_in, opened, begun_to, started, loaded_to, loaded, unloaded, settled_of, answered}
+use Rattle.dn_waiting.specs.Turns.{next_of, left_of, left_at, taken, taken_up, tasked, released, turns}
+use Rattle.dn_waiting.specs.Sound.{IsSound, IsSession, IsLane, IsLaneOrNone, IsLoading, IsAtLoad, IsOpenCall, HasLane, Shows}
 use Rattle.dn_waiting.proofs.Steps.{stepped}
 use Rattle.dn_waiting.proofs.Kept.{opened_sound, queued_sound, refused_sound, tasks_sound, begun_sound, settled_sound}
 use Rattle.dn_waiting.proofs.Stopping.{none_sound}

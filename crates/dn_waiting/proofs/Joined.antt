@@ -1,14 +1,13 @@
-use Rattle.std.proofs.Common.{ℕ, ◌≡◌, ◌≢◌, ◌+◌, ◌<◌, ◌≤◌, List, [], ◌∷◌, Option, Some, None, set, get_or, length, refl, sym, ap, subst, ◌∙◌, arith, Contains}
+use Rattle.std.proofs.Common.{ℕ, ◌≡◌, ◌<◌, ◌≤◌, List, [], ◌∷◌, Option, Some, None, set, get_or, refl, sym, ap, subst, ◌∙◌, arith, Contains}
 use Rattle.std.proofs.lemmas.List.{get_or_default}
 use Rattle.dn_hist.specs.declared.receipts.SessionView.{SessionView}
 use Rattle.dn_tend.specs.declared.tasks.Task.{Task}
 use Rattle.dn_waiting.specs.declared.calls.OpenCall.{OpenCall}
 use Rattle.dn_waiting.specs.declared.calls.Place.TheVariants.{Queued, Begun}
 use Rattle.dn_waiting.specs.declared.calls.AttemptEnd.{AttemptEnd}
-use Rattle.dn_waiting.specs.declared.calls.Next.{Next}
-use Rattle.dn_waiting.specs.declared.calls.Next.TheVariants.{Rest, Tend, Try}
+use Rattle.dn_waiting.specs.declared.calls.Next.TheVariants.{Try}
 use Rattle.dn_waiting.specs.Queues.{AtLane, idle, with_attempt}
-use Rattle.dn_waiting.specs.State.{WaitingState, call_of, at_lane, with_lane}
+use Rattle.dn_waiting.specs.State.{WaitingState, call_of, at_lane}
 use Rattle.dn_waiting.specs.Attempts.{placed, settled}
 use Rattle.dn_waiting.specs.Turns.{next_of, next_at, left_of, left_at}
 use Rattle.dn_waiting.specs.Sound.{IsSound, IsLane, IsLoading, Shows}

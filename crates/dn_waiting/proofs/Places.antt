@@ -1,14 +1,13 @@
-use Rattle.std.proofs.Common.{ℕ, ◌≡◌, ◌≢◌, ◌+◌, ◌<◌, ◌≤◌, ◌==◌, Bool, true, false, cond, Option, Some, None, nat_lt, refl, sym, ap, subst, ◌∙◌, arith}
+use Rattle.std.proofs.Common.{ℕ, ◌≡◌, ◌≢◌, ◌+◌, Bool, true, false, cond, Option, Some, None, nat_lt, refl, sym, ◌∙◌, arith}
 use borrow.Author.Tests.{ltb-true}
 use Rattle.std.proofs.lemmas.Bool.{eqb-true}
-use Rattle.dn_hist.specs.declared.receipts.SessionView.{SessionView}
 use Rattle.dn_waiting.specs.declared.calls.OpenCall.{OpenCall}
 use Rattle.dn_waiting.specs.declared.calls.Place.{Place}
 use Rattle.dn_waiting.specs.declared.calls.Place.TheVariants.{Loading, Queued, Begun}
 use Rattle.dn_waiting.specs.declared.calls.AttemptEnd.{AttemptEnd}
 use Rattle.dn_waiting.specs.declared.calls.AttemptEnd.TheVariants.{Made, Spent, Refused}
 use Rattle.dn_waiting.specs.Attempts.{placed, refused_once, settled}
-use Rattle.dn_waiting.specs.Sound.{IsOpen, IsOpenCall, IsLaneOrNone, IsLoading, IsAtLoad, HasLane, Shows, waits_at, waits_by, runs_at, runs_by}
+use Rattle.dn_waiting.specs.Sound.{IsOpenCall, IsLaneOrNone, IsLoading, IsAtLoad, HasLane, waits_at, waits_by, runs_at, runs_by}
 use Rattle.dn_waiting.proofs.Counts.{own_test, other_test}
 use Rattle.dn_waiting.proofs.Steps.{Keeps}
 

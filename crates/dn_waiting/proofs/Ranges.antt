@@ -1,4 +1,4 @@
-use Rattle.std.proofs.Common.{ℕ, ◌≡◌, ◌≢◌, ◌+◌, ◌<◌, ◌≤◌, ◌==◌, ◌⊎◌, inl, inr, Bool, true, false, List, [], ◌∷◌, ◌++◌, cond, Option, Some, None, get_or, length, refl, sym, ap, subst, ◌∙◌, arith, Contains, All, zero, suc}
+use Rattle.std.proofs.Common.{ℕ, ◌≡◌, ◌≢◌, ◌+◌, ◌<◌, ◌≤◌, ◌==◌, ◌⊎◌, inl, inr, Bool, true, false, ◌∷◌, ◌++◌, cond, Option, Some, None, get_or, length, refl, sym, ap, subst, ◌∙◌, arith, Contains, All, zero, suc}
 use Rattle.std.specs.Option.{option_to_list}
 use Rattle.std.proofs.lemmas.Bool.{cases_lt, cases_eq}
 use Rattle.std.proofs.lemmas.List.{get_or_past, get_or_default}
@@ -6,8 +6,8 @@ use Rattle.dn_hist.specs.declared.receipts.SessionView.{SessionView}
 use Rattle.dn_waiting.specs.declared.calls.OpenCall.{OpenCall}
 use Rattle.dn_waiting.specs.Queues.{attempts_at}
 use Rattle.dn_waiting.specs.State.{WaitingState, call_of, at_lane}
-use Rattle.dn_waiting.specs.Sound.{IsSound, Shows, how_often, is_of, waits_at, runs_at}
-use Rattle.dn_waiting.proofs.Counts.{own_test, other_test, few, often_contained}
+use Rattle.dn_waiting.specs.Sound.{IsSound, Shows, how_often, waits_at}
+use Rattle.dn_waiting.proofs.Counts.{other_test, few}
 
 -- Sessions of attempts are numbers of sessions, and no queue has more of them than there are.
 

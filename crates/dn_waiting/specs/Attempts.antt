@@ -1,4 +1,4 @@
-use Rattle.std.specs.Prelude.{ℕ, ◌≡◌, ◌+◌, ◌==◌, List, Option, Some, None, nat_lt, set, if◌then◌else◌}
+use Rattle.std.specs.Prelude.{ℕ, ◌+◌, ◌==◌, Option, Some, None, nat_lt, set, if◌then◌else◌}
 use Rattle.dn_hist.specs.declared.calls.Call.{Call}
 use Rattle.dn_hist.specs.declared.receipts.SessionView.{SessionView}
 use Rattle.dn_waiting.specs.declared.calls.OpenCall.{OpenCall}
@@ -8,7 +8,7 @@ use Rattle.dn_waiting.specs.declared.calls.Course.{Course}
 use Rattle.dn_waiting.specs.declared.calls.Course.TheVariants.{Load, Wait, Answered, GivenUp}
 use Rattle.dn_waiting.specs.declared.calls.AttemptEnd.{AttemptEnd}
 use Rattle.dn_waiting.specs.declared.calls.AttemptEnd.TheVariants.{Made, Spent, Refused}
-use Rattle.dn_waiting.specs.Queues.{AtLane, with_attempt}
+use Rattle.dn_waiting.specs.Queues.{with_attempt}
 use Rattle.dn_waiting.specs.State.{WaitingState, call_of, at_lane, with_call}
 
 -- How a call goes on: to a lane, or to a load of its deed. Lane 0 as a route stands for none.

@@ -140,12 +140,7 @@ fn end(rt: &impl Abort, waiting: &mut Waiting, lane: u8, end: AttemptEnd) -> Cou
 }
 
 /// A task arrives at a lane.
-fn arrive(
-    rt: &impl Abort,
-    waiting: &mut Waiting,
-    lane: u8,
-    task: Task,
-) -> Result<(), OutOfMemory> {
+fn arrive(rt: &impl Abort, waiting: &mut Waiting, lane: u8, task: Task) -> Result<(), OutOfMemory> {
     assert!(rt; is_lane(lane));
     waiting.queue_task(lane, task)
 }
@@ -198,11 +193,7 @@ fn play(rt: &impl Abort, waiting: &mut Waiting, step: Step) -> Result<(), OutOfM
 }
 
 /// Does steps one after another.
-fn play_all(
-    rt: &impl Abort,
-    waiting: &mut Waiting,
-    steps: &[Step],
-) -> Result<(), OutOfMemory> {
+fn play_all(rt: &impl Abort, waiting: &mut Waiting, steps: &[Step]) -> Result<(), OutOfMemory> {
     for step in steps {
         play(rt, waiting, *step)?;
     }

@@ -1,6 +1,6 @@
-use Rattle.std.proofs.Common.{ℕ, ◌≡◌, ◌+◌, ◌≤◌, ◌<◌, ◌++◌, List, [], ◌∷◌, All, None, set, map, length, append_assoc, ap, sym, subst, ◌∙◌, arith, suc}
+use Rattle.std.proofs.Common.{ℕ, ◌≡◌, ◌<◌, ◌++◌, List, [], ◌∷◌, All, map, length, append_assoc, ap, sym, subst, ◌∙◌, arith, suc}
 use Rattle.dn_hist.specs.declared.receipts.SessionView.{SessionView}
-use Rattle.dn_waiting.specs.Queues.{idle, attempts_at}
+use Rattle.dn_waiting.specs.Queues.{attempts_at}
 use Rattle.dn_waiting.specs.Stops.{without, named_by}
 use Rattle.dn_waiting.proofs.stops.end_all.Goals as goal
 

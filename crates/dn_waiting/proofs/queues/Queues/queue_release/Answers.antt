@@ -1,4 +1,4 @@
-use Rattle.std.proofs.Common.{ℕ, ◌≡◌, ◌+◌, ◌<◌, ◌≤◌, false, List, [], ◌∷◌, ◌++◌, length, ap, sym, subst, ◌∙◌, arith}
+use Rattle.std.proofs.Common.{ℕ, ◌≡◌, ◌<◌, ◌≤◌, false, List, [], ◌∷◌, ◌++◌, ap, ◌∙◌, arith}
 use Rattle.dn_tend.specs.declared.tasks.Task.{Task}
 use Rattle.dn_waiting.specs.Room.{unqueued_below}
 use Rattle.dn_tend.specs.declared.tasks.Task.TheVariants.{Release}

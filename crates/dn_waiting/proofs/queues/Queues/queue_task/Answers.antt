@@ -1,6 +1,4 @@
-use Rattle.std.proofs.Common.{ℕ, ◌≡◌, ◌+◌, ◌<◌, ◌≤◌, false, List, [], ◌∷◌, ◌++◌, length, ap, sym, subst, ◌∙◌, arith}
-use Rattle.dn_tend.specs.declared.tasks.Task.{Task}
-use Rattle.dn_waiting.specs.Room.{unqueued_below}
+use Rattle.std.proofs.Common.{arith}
 use Rattle.dn_waiting.proofs.RoomLaws.{unqueued_most}
 use Rattle.dn_waiting.proofs.queues.Queues.queue_task.Goals as goal
 

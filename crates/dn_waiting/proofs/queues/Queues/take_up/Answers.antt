@@ -1,5 +1,4 @@
-use Rattle.std.proofs.Common.{ℕ, ◌≡◌, ◌+◌, ◌<◌, ◌≤◌, false, List, [], ◌∷◌, ◌++◌, length, ap, sym, subst, ◌∙◌, arith}
-use Rattle.dn_tend.specs.declared.tasks.Task.{Task}
+use Rattle.std.proofs.Common.{◌≡◌, ◌∷◌, ap, arith}
 use Rattle.dn_waiting.specs.Room.{unqueued_below}
 use Rattle.dn_waiting.proofs.RoomLaws.{unqueued_popped}
 use Rattle.dn_waiting.proofs.queues.Queues.take_up.Goals as goal

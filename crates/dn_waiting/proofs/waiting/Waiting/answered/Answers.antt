@@ -1,8 +1,6 @@
-use Rattle.std.proofs.Common.{ℕ, ◌≡◌, ◌+◌, ◌<◌, ◌≤◌, ◌++◌, ◌∷◌, List, Option, Some, None, length, refl, ap, sym, subst, ◌∙◌, arith, All}
-use Rattle.dn_hist.specs.declared.receipts.SessionView.{SessionView}
-use Rattle.dn_waiting.specs.State.{WaitingState, call_of, at_lane}
-use Rattle.dn_waiting.specs.Queues.{AtLane, attempts_at}
-use Rattle.dn_waiting.specs.Sound.{IsSound, IsLoading, Shows}
+use Rattle.std.proofs.Common.{◌≡◌, Some, ap, sym, ◌∙◌, arith}
+use Rattle.dn_waiting.specs.State.{WaitingState, at_lane}
+use Rattle.dn_waiting.specs.Queues.{AtLane}
 use Rattle.dn_waiting.proofs.Joined.{lane_is, settled_joined}
 use Rattle.dn_waiting.proofs.Ranges.{shown_inside}
 use Rattle.dn_waiting.proofs.waiting.Waiting.answered.Goals as goal

@@ -1,7 +1,7 @@
 use Rattle.std.proofs.Common.{◌≡◌, List, Option, None, replicate, refl, ap, sym, subst, ◌∙◌}
 use Rattle.dn_waiting.specs.declared.calls.OpenCall.{OpenCall}
 use Rattle.dn_waiting.specs.Queues.{AtLane, idle}
-use Rattle.dn_waiting.specs.State.{WaitingState, nothing_waits}
+use Rattle.dn_waiting.specs.State.{nothing_waits}
 use Rattle.dn_waiting.specs.Sound.{IsSound}
 use Rattle.dn_waiting.proofs.Joined.{made_of}
 use Rattle.dn_waiting.proofs.Stopping.{none_sound}

@@ -1,8 +1,7 @@
-use Rattle.std.proofs.Common.{ℕ, ◌≡◌, ◌+◌, ◌<◌, ◌≤◌, ◌++◌, ◌∷◌, List, Option, Some, None, length, refl, ap, sym, subst, ◌∙◌, arith, All}
-use Rattle.dn_hist.specs.declared.receipts.SessionView.{SessionView}
+use Rattle.std.proofs.Common.{◌≡◌, ◌≤◌, length, sym, subst}
 use Rattle.dn_waiting.specs.State.{WaitingState, call_of, at_lane}
-use Rattle.dn_waiting.specs.Queues.{AtLane, attempts_at}
-use Rattle.dn_waiting.specs.Sound.{IsSound, IsLoading, Shows}
+use Rattle.dn_waiting.specs.Queues.{AtLane}
+use Rattle.dn_waiting.specs.Sound.{IsLoading, Shows}
 use Rattle.dn_waiting.proofs.Joined.{lane_is, queued_joined}
 use Rattle.dn_waiting.proofs.Places.{IsAway, loading_away}
 use Rattle.dn_waiting.proofs.Ranges.{queue_room}

@@ -1,8 +1,7 @@
-use Rattle.std.proofs.Common.{ℕ, ◌≡◌, ◌+◌, ◌<◌, ◌≤◌, ◌++◌, ◌∷◌, List, [], OnOk, OnErr, Result, Ok, Err, set, get_or, Option, Some, None, length, refl, ap, sym, subst, ◌∙◌, arith, All}
-use Rattle.dn_hist.specs.declared.receipts.SessionView.{SessionView}
-use Rattle.dn_waiting.specs.State.{WaitingState, call_of, at_lane}
-use Rattle.dn_waiting.specs.Queues.{AtLane, attempts_at}
-use Rattle.dn_waiting.specs.Sound.{IsSound, IsLane, IsLoading, Shows}
+use Rattle.std.proofs.Common.{ℕ, ◌≡◌, ◌++◌, ◌∷◌, [], OnOk, OnErr, Result, Ok, Err, set, get_or}
+use Rattle.dn_waiting.specs.State.{WaitingState}
+use Rattle.dn_waiting.specs.Queues.{AtLane}
+use Rattle.dn_waiting.specs.Sound.{IsSound, IsLane}
 use Rattle.dn_tend.specs.declared.tasks.Task.{Task}
 use Rattle.dn_waiting.specs.Queues.{with_task}
 use Rattle.dn_waiting.proofs.Joined.{tasks_joined, made_of}

@@ -1,8 +1,8 @@
-use Rattle.std.proofs.Common.{ℕ, ◌≡◌, ◌+◌, ◌<◌, ◌≤◌, ◌++◌, ◌∷◌, List, Option, Some, None, length, refl, ap, sym, subst, ◌∙◌, arith, All, vec_len, set}
+use Rattle.std.proofs.Common.{ℕ, ◌≡◌, ◌<◌, ap, sym, subst, ◌∙◌, arith, All, vec_len, set}
 use Rattle.dn_hist.specs.declared.receipts.SessionView.{SessionView}
-use Rattle.dn_waiting.specs.State.{WaitingState, call_of, at_lane}
+use Rattle.dn_waiting.specs.State.{WaitingState, at_lane}
 use Rattle.dn_waiting.specs.Queues.{AtLane, attempts_at}
-use Rattle.dn_waiting.specs.Sound.{IsSound, IsLoading, Shows}
+use Rattle.dn_waiting.specs.Sound.{IsSound}
 use Rattle.dn_waiting.specs.Stops.{without}
 use Rattle.dn_waiting.proofs.Joined.{lane_is, made_of}
 use Rattle.dn_waiting.proofs.Ranges.{attempts_inside}

@@ -1,9 +1,5 @@
-use Rattle.std.proofs.Common.{ℕ, ◌≡◌, ◌+◌, ◌<◌, ◌≤◌, ◌++◌, ◌∷◌, List, Option, Some, None, length, refl, ap, sym, subst, ◌∙◌, arith, All}
-use Rattle.dn_hist.specs.declared.receipts.SessionView.{SessionView}
-use Rattle.dn_waiting.specs.State.{WaitingState, call_of, at_lane}
-use Rattle.dn_waiting.specs.Queues.{AtLane, attempts_at}
-use Rattle.dn_waiting.specs.Sound.{IsSound, IsLoading, Shows}
-use Rattle.dn_waiting.specs.declared.calls.Next.TheVariants.{Try}
+use Rattle.std.proofs.Common.{◌≡◌, None, ap, sym, ◌∙◌, arith}
+use Rattle.dn_waiting.specs.State.{WaitingState, at_lane}
 use Rattle.dn_waiting.proofs.Joined.{try_joined, try_inside, no_try_joined}
 use Rattle.dn_waiting.proofs.waiting.Waiting.take_up.Goals as goal
 
