@@ -1,4 +1,4 @@
-use Rattle.std.proofs.Common.{ℕ, ◌≡◌, ◌≢◌, ◌+◌, ◌<◌, ◌≤◌, ◌==◌, ◌⊎◌, inl, inr, Bool, true, false, ◌∷◌, ◌++◌, cond, Option, Some, None, get_or, length, refl, sym, ap, subst, ◌∙◌, arith, Contains, All, zero, suc}
+use Rattle.std.proofs.Common.{ℕ, ◌≡◌, ◌≢◌, ◌+◌, ◌<◌, ◌≤◌, ◌==◌, ◌⊎◌, inl, inr, Bool, true, false, ◌∷◌, ◌++◌, cond, Option, Some, None, get_or, length, refl, sym, ap, subst, ◌∙◌, arith, Contains, zero, suc}
 use Rattle.std.specs.Option.{option_to_list}
 use Rattle.std.proofs.lemmas.Bool.{cases_lt, cases_eq}
 use Rattle.std.proofs.lemmas.List.{get_or_past, get_or_default}
@@ -7,6 +7,7 @@ use Rattle.dn_waiting.specs.declared.calls.OpenCall.{OpenCall}
 use Rattle.dn_waiting.specs.Queues.{attempts_at}
 use Rattle.dn_waiting.specs.State.{WaitingState, call_of, at_lane}
 use Rattle.dn_waiting.specs.Sound.{IsSound, Shows, how_often, waits_at}
+use Rattle.dn_waiting.specs.Stops.{AreBelow}
 use Rattle.dn_waiting.proofs.Counts.{other_test, few}
 
 -- Sessions of attempts are numbers of sessions, and no queue has more of them than there are.
@@ -67,7 +68,7 @@ attempt_shows w sound lane u h = by_begun (at_lane w lane).begun refl h
     by_begun (Some v) e (zero, x, i) = subst (λ (p : SessionView). Shows p (call_of w p.session)) i (sound.number lane v e)
     by_begun (Some v) e (suc k, x, i) = sound.numbers lane u (k, omega (arith, x), i)
 
-pub attempts_inside : (w : WaitingState) → IsSound w → (lane : ℕ) → All (λ (v : SessionView). v.session < 1001) (attempts_at (at_lane w lane))
+pub attempts_inside : (w : WaitingState) → IsSound w → (lane : ℕ) → AreBelow 1001 (attempts_at (at_lane w lane))
 attempts_inside w sound lane k d h =
     let u : SessionView = get_or (attempts_at (at_lane w lane)) k d in
     shown_inside w u sound (attempt_shows w sound lane u (k, h, get_or_default (attempts_at (at_lane w lane)) k u d h))

@@ -5,8 +5,8 @@ ghost use Rattle.dn_waiting.specs.Attempts.{at_first, after_load, placed, refuse
 
 use crate::calls::{AttemptEnd, Course, OpenCall, Place};
 
-/// The refused attempt that gives a call up.
-const LAST: u8 = 7;
+/// How many attempts of a call may be refused; one more gives it up.
+const REFUSALS: u8 = 7;
 
 /// Where a call's first attempt goes, by the lane that its line names and the session's route: nowhere before a load,
 /// where no route is known.
@@ -51,7 +51,7 @@ pub fn refuse(calls: &mut Vec<Option<OpenCall>>, session: u32, named: Option<u8>
     ensures course { result ≡ course_refused (get_or calls.old.items session None) }
 {
     match &mut calls[session as usize] {
-        Some(call) if call.refused < LAST => {
+        Some(call) if call.refused < REFUSALS => {
             call.refused += 1;
             call.place = Place::Loading { named };
             Course::Load

@@ -4,7 +4,7 @@ ghost use Rattle.dn_waiting.specs.Attempts.{opened, queued, refused, started, at
 ghost use Rattle.dn_waiting.specs.Queues.{idle, is_queued};
 ghost use Rattle.dn_waiting.specs.State.{nothing_waits, call_of, at_lane};
 ghost use Rattle.dn_waiting.specs.Sound.{IsSound, IsSession, IsLane, IsLaneOrNone, IsLoading, Shows};
-ghost use Rattle.dn_waiting.specs.Stops.{calls_at, stopped, waiting_from};
+ghost use Rattle.dn_waiting.specs.Stops.{calls_at, count_at, stopped, waiting_from};
 ghost use Rattle.dn_waiting.specs.Turns.{next_at, taken_up, tasked, released};
 
 use crate::attempts::{first_lane, later_lane, move_to, refuse, settle};
@@ -29,7 +29,9 @@ const LANES: usize = 64;
 /// there or is under way. Each attempt has the view that its session showed when it was put there. A lane takes up tasks
 /// before attempts, each in order of arrival.
 ///
-/// `new` takes the memory for all that. Beside it only `queue_task` and `waiting` take any.
+/// `new` takes the memory for that, some 1.6 million bytes: each lane has room for the attempts of all sessions and for a
+/// release of each slot. Beside it only `queue_task` and `waiting` take any. Whether a task is under way at a lane is for
+/// the lane to say.
 #[derive(Drop)]
 pub struct Waiting {
     calls: Vec<Option<OpenCall>>,
@@ -97,7 +99,7 @@ impl Waiting {
     /// The load of the deed that a session's call stands at has been made: `route` is the session's route by it, up to
     /// 63, or 0 where the deed names no lane. The view is the one that the session shows now.
     ///
-    /// Where the line named a lane and this is the call's first load, its first attempt waits there. Else the next attempt
+    /// Where the line named a lane and this is the call's first load, its first attempt waits there. Else the next one
     /// waits at the route's lane; without a route that is a refused attempt: the eighth gives the call up, and after
     /// another the deed is loaded again.
     pub fn loaded(&mut self, view: SessionView, route: u8) -> Course
@@ -150,8 +152,8 @@ impl Waiting {
         self.lanes[lane as usize].next()
     }
 
-    /// The lane takes that up: it waits no more, and an attempt is under way from then on. The condition is that no
-    /// attempt is under way there.
+    /// The lane takes that up: it waits no more, and where it is an attempt, that is under way from then on. The
+    /// condition is that no attempt is under way there.
     pub fn take_up(&mut self, lane: u8) -> Next
         requires lane { IsLane lane }
         requires free { (at_lane self.old lane).begun ≡ None }
@@ -197,7 +199,7 @@ impl Waiting {
     /// How many calls have an attempt at a lane, waiting or under way.
     pub fn calls_at(&self, lane: u8) -> usize
         requires { IsLane lane }
-        ensures { result ≡ length (calls_at self.now lane) }
+        ensures { result ≡ count_at self.now lane }
     {
         self.lanes[lane as usize].len()
     }
@@ -209,7 +211,7 @@ impl Waiting {
     /// Where an attempt went to a lane that had been stopped before, a further stop ends it alone.
     pub fn stop(&mut self, lane: u8, ended: &mut Vec<(u32, u32)>)
         requires lane { IsLane lane }
-        requires room { vec_len ended.old + length (calls_at self.old lane) ≤ vec_capacity ended.old }
+        requires room { vec_len ended.old + count_at self.old lane ≤ vec_capacity ended.old }
         ensures after { self.new ≡ stopped self.old lane }
         ensures ended { ended.new.items ≡ ended.old.items ++ calls_at self.old lane }
     {

@@ -1,12 +1,12 @@
-use Rattle.std.proofs.Common.{ℕ, ◌≡◌, ◌<◌, ◌++◌, List, [], ◌∷◌, All, map, length, append_assoc, ap, sym, subst, ◌∙◌, arith, suc}
+use Rattle.std.proofs.Common.{ℕ, ◌≡◌, ◌++◌, List, [], ◌∷◌, map, length, append_assoc, ap, sym, subst, ◌∙◌, arith, suc}
 use Rattle.dn_hist.specs.declared.receipts.SessionView.{SessionView}
 use Rattle.dn_waiting.specs.Queues.{attempts_at}
-use Rattle.dn_waiting.specs.Stops.{without, named_by}
+use Rattle.dn_waiting.specs.Stops.{without, named_by, AreBelow}
 use Rattle.dn_waiting.proofs.stops.end_all.Goals as goal
 
-inside_rest : (n : ℕ) (views rest : List SessionView) (v : SessionView) → views ≡ v ∷ rest → All (λ (u : SessionView). u.session < n) views → All (λ (u : SessionView). u.session < n) rest
+inside_rest : (n : ℕ) (views rest : List SessionView) (v : SessionView) → views ≡ v ∷ rest → AreBelow n views → AreBelow n rest
 inside_rest n views rest v e h k d x =
-    let every : All (λ (u : SessionView). u.session < n) (v ∷ rest) = subst (All (λ (u : SessionView). u.session < n)) e h in
+    let every : AreBelow n (v ∷ rest) = subst (AreBelow n) e h in
     every (suc k) d (omega (arith, x))
 
 noted : (before ended : List (ℕ × ℕ)) (views rest : List SessionView) (v : SessionView) → views ≡ v ∷ rest → ended ≡ before ++ named_by v ∷ []

@@ -1,17 +1,16 @@
-use Rattle.std.proofs.Common.{ℕ, ◌≡◌, ◌<◌, ap, sym, subst, ◌∙◌, arith, All, vec_len, set}
-use Rattle.dn_hist.specs.declared.receipts.SessionView.{SessionView}
+use Rattle.std.proofs.Common.{ℕ, ◌≡◌, ap, sym, subst, ◌∙◌, arith, vec_len, set}
 use Rattle.dn_waiting.specs.State.{WaitingState, at_lane}
 use Rattle.dn_waiting.specs.Queues.{AtLane, attempts_at}
 use Rattle.dn_waiting.specs.Sound.{IsSound}
-use Rattle.dn_waiting.specs.Stops.{without}
+use Rattle.dn_waiting.specs.Stops.{without, AreBelow}
 use Rattle.dn_waiting.proofs.Joined.{lane_is, made_of}
 use Rattle.dn_waiting.proofs.Ranges.{attempts_inside}
 use Rattle.dn_waiting.proofs.Stopping.{stopped_sound}
 use Rattle.dn_waiting.proofs.waiting.Waiting.stop.Goals as goal
 
-inside_at : (w : WaitingState) (l : ℕ) (q : AtLane) (n : ℕ) → IsSound w → q ≡ at_lane w l → n ≡ 1001 → All (λ (v : SessionView). v.session < n) (attempts_at q)
+inside_at : (w : WaitingState) (l : ℕ) (q : AtLane) (n : ℕ) → IsSound w → q ≡ at_lane w l → n ≡ 1001 → AreBelow n (attempts_at q)
 inside_at w l q n sound is e k d x =
-    let every : All (λ (v : SessionView). v.session < 1001) (attempts_at q) = subst (λ (p : AtLane). All (λ (v : SessionView). v.session < 1001) (attempts_at p)) (sym is) (attempts_inside w sound l) in
+    let every : AreBelow 1001 (attempts_at q) = subst (λ (p : AtLane). AreBelow 1001 (attempts_at p)) (sym is) (attempts_inside w sound l) in
     omega (arith, every k d x, e)
 
 pub end_all-requires-clause-inside : goal.end_all-requires-clause-inside
