@@ -8,3 +8,4 @@ pub mod Stopping
 pub mod Joined
 pub mod Changes
 pub mod PlaceLaws
+pub mod Refusals

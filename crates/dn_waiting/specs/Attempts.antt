@@ -1,4 +1,4 @@
-use Rattle.std.specs.Prelude.{ℕ, ◌+◌, ◌==◌, Option, Some, None, nat_lt, set, if◌then◌else◌}
+use Rattle.std.specs.Prelude.{ℕ, ◌+◌, ◌==◌, List, [], ◌∷◌, Option, Some, None, nat_lt, set, if◌then◌else◌}
 use Rattle.dn_hist.specs.declared.calls.Call.{Call}
 use Rattle.dn_hist.specs.declared.receipts.SessionView.{SessionView}
 use Rattle.dn_waiting.specs.declared.calls.OpenCall.{OpenCall}
@@ -125,3 +125,14 @@ answered w lane end = settled_of w lane end (at_lane w lane).begun
 abbrev pub course_at : WaitingState → AttemptEnd → Option SessionView → Course
 course_at w end None = Load
 course_at w end (Some view) = course_settled end (call_of w view.session)
+
+-- ---- many refused attempts
+-- the call after a refused attempt for each of these places, at which it stands in turn
+abbrev pub refused_through : List Place → Option OpenCall → Option OpenCall
+refused_through [] c = c
+refused_through (place ∷ places) c = refused_through places (placed (refused_once c None) place)
+
+-- how many attempts of a call were refused
+abbrev pub refusals_of : Option OpenCall → Option ℕ
+refusals_of None = None
+refusals_of (Some c) = Some c.refused

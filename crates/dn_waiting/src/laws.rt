@@ -7,7 +7,8 @@ ghost use Rattle.dn_tend.specs.declared.tasks.Task.{Task};
 ghost use Rattle.dn_waiting.specs.declared.calls.AttemptEnd.{AttemptEnd};
 ghost use Rattle.dn_waiting.specs.declared.calls.Next.TheVariants.{Tend, Try};
 ghost use Rattle.dn_waiting.specs.declared.calls.OpenCall.{OpenCall};
-ghost use Rattle.dn_waiting.specs.Attempts.{started, loaded, unloaded, answered};
+ghost use Rattle.dn_waiting.specs.declared.calls.Place.{Place};
+ghost use Rattle.dn_waiting.specs.Attempts.{started, loaded, unloaded, answered, refused_through, refusals_of};
 ghost use Rattle.dn_waiting.specs.Queues.{AtLane, attempts_at};
 ghost use Rattle.dn_waiting.specs.Sound.{IsSound, IsSession, IsLane, IsLaneOrNone, IsLoading, Shows, how_often};
 ghost use Rattle.dn_waiting.specs.State.{WaitingState, nothing_waits, call_of, at_lane};
@@ -32,6 +33,14 @@ pub fn places()
         → Contains (attempts_at (at_lane w lane)) u → Shows u (call_of w u.session) }
     ensures refused { (w : WaitingState) → IsSound w → (session : ℕ) (c : OpenCall)
         → call_of w session ≡ Some c → c.refused ≤ 7 }
+{}
+
+/// Up to seven refused attempts leave a call there, and the eighth gives it up, wherever it stands between them.
+pub fn refusals()
+    ensures seven { (places : List Place) (c : OpenCall) → c.refused + length places ≤ 7
+        → refusals_of (refused_through places (Some c)) ≡ Some (c.refused + length places) }
+    ensures eighth { (places : List Place) (c : OpenCall) → c.refused ≤ 7
+        → 8 ≤ c.refused + length places → refused_through places (Some c) ≡ None }
 {}
 
 /// A lane at which nothing arrives takes up all its tasks, and then all attempts, each in order of arrival.
