@@ -99,9 +99,9 @@ impl Waiting {
     /// The load of the deed that a session's call stands at has been made: `route` is the session's route by it, up to
     /// 63, or 0 where the deed names no lane. The view is the one that the session shows now.
     ///
-    /// Where the line named a lane and this is the call's first load, its first attempt waits there. Else the next one
-    /// waits at the route's lane; without a route that is a refused attempt: the eighth gives the call up, and after
-    /// another the deed is loaded again.
+    /// Where the line named a lane and no attempt was made yet, the first one waits there. Else the next one waits at the
+    /// route's lane; without a route that is a refused attempt: the eighth gives the call up, and after another the deed
+    /// is loaded again.
     pub fn loaded(&mut self, view: SessionView, route: u8) -> Course
         requires session { IsSession view.session }
         requires loading { IsLoading (call_of self.old view.session) }
