@@ -18,3 +18,4 @@ pub mod Kept
 pub mod Attempts
 pub mod Quiet
 pub mod Growing
+pub mod Unanswered

@@ -1,6 +1,6 @@
 //! What is so of a machine, as functions without work: what each says is its contract.
 
-ghost use Rattle.std.specs.Prelude.{◌≡◌, ◌≤◌, ℕ, true, false, List, Contains, Some, None, length};
+ghost use Rattle.std.specs.Prelude.{◌≡◌, ◌⊎◌, ◌≤◌, ℕ, true, false, List, Contains, Some, None, length};
 ghost use Rattle.dn_act.specs.Action.{words_after};
 ghost use Rattle.dn_act.specs.Words.{pool_size, IsZeros};
 ghost use Rattle.dn_act.specs.declared.actions.Action.{Action};
@@ -77,6 +77,7 @@ pub fn records()
 {}
 
 /// A session that isn't closed was answered each of its receipts; a receipt without an answer is its session's last.
+/// Only a put or delete comes to stand without an answer, by whatever event.
 pub fn answers()
     ensures given { (segments : ℕ) (m : Machine) (x : Standing) → IsSound segments m
         → Contains m.callers.receipts x → IsSession x.receipt.position.session
@@ -85,6 +86,9 @@ pub fn answers()
         → Contains m.callers.receipts x → Contains m.callers.receipts y
         → y.receipt.position.session ≡ x.receipt.position.session → x.answered ≡ false
         → y.receipt.number ≤ x.receipt.number }
+    ensures writes { (m : Machine) (e : Event) (x : Standing)
+        → Contains (happens m e).callers.receipts x → x.answered ≡ false
+        → Contains m.callers.receipts x ⊎ IsWrite x.receipt.call }
 {}
 
 /// What a lane's action does to the map that the words hold. A call that is made at it is answered what the plain map
