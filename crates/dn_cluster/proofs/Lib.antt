@@ -1,0 +1,12 @@
+pub mod Numbers
+pub mod Same
+pub mod Places
+pub mod Within
+pub mod Found
+pub mod Events
+pub mod OtherEvents
+pub mod Giving
+pub mod Given
+pub mod Kept
+pub mod Takes
+pub mod Opening

@@ -1,0 +1,17 @@
+use Rattle.std.proofs.Common.{◌-◌, ap}
+use Rattle.dn_cluster.specs.State.{ClusterState}
+use Rattle.dn_cluster.specs.Inside.{state_of}
+use Rattle.dn_cluster.specs.Changed.{with_client}
+use Rattle.dn_cluster.proofs.Places.{HasClient, read_client}
+use Rattle.dn_route.specs.SessionState.{SessionState}
+use Rattle.dn_machine.specs.Events.{Numbers}
+use Rattle.dn_cluster.proofs.Giving.{from, numbers_so}
+use Rattle.dn_cluster.proofs.clusters.Cluster.number.Goals as goal
+
+pub returns-clause-does : goal.returns-clause-does
+returns-clause-does c =
+    let at : ClusterState = state_of c.self.inside in
+    let h : HasClient at c.args.session (c.args.session - 1) =
+    read_client at c.args.session c.index_mut.result.now c.self.invariant c.requires.session c.index_mut.ensures.value in
+    from at _ _ (Numbers c.args.session) c.self.view_is (numbers_so at _ c.args.session (c.args.session - 1) h
+    (ap (λ (x : SessionState). with_client at (c.args.session - 1) (record h.client { session = x })) c.view.ensures.after))
