@@ -1,4 +1,5 @@
 use Rattle.std.proofs.Common.{ℕ, ◌≡◌, ◌<◌, ◌^◌, Option, Some, None, length, slice_get, get_or, refl, sym, ◌∙◌, ap}
+use Rattle.std.proofs.lemmas.List.{length-set}
 use Rattle.std.proofs.lemmas.Option.{same_Some, slice_get_within, slice_get_read}
 use Rattle.dn_word.specs.declared.positions.Position.{Position}
 use Rattle.dn_lane2.specs.State.{LaneState}
@@ -60,3 +61,15 @@ answered_segments c (Some to) = heard_segments c to.session to (numbered c.clien
 
 pub taken_segments : (c d : ClusterState) (at : ℕ) (x : Node) (o : Option Position) → d ≡ answered_in (with_node c at x) o → d.segments ≡ c.segments
 taken_segments c d at x o after = ap (λ (y : ClusterState). y.segments) after ∙ answered_segments (with_node c at x) o
+
+-- and as many lanes
+pub heard_lanes : (c : ClusterState) (s : ℕ) (position : Position) (o : Option Client) → length (heard_by c s position o).nodes ≡ length c.nodes
+heard_lanes c s position None = refl
+heard_lanes c s position (Some x) = refl
+
+answered_lanes : (c : ClusterState) (o : Option Position) → length (answered_in c o).nodes ≡ length c.nodes
+answered_lanes c None = refl
+answered_lanes c (Some to) = heard_lanes c to.session to (numbered c.clients to.session)
+
+pub taken_lanes : (c d : ClusterState) (at : ℕ) (x : Node) (o : Option Position) → d ≡ answered_in (with_node c at x) o → length d.nodes ≡ length c.nodes
+taken_lanes c d at x o after = ap (λ (y : ClusterState). length y.nodes) after ∙ answered_lanes (with_node c at x) o ∙ length-set c.nodes at x

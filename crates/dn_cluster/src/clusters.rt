@@ -174,6 +174,7 @@ impl Cluster {
         ensures value { IfOk result (λ lane. lane ≡ length self.old.nodes + 1) }
         ensures does { IfOk result (λ lane. Does self.old self.new (Adds lane self.old.segments)) }
         ensures segments { self.new.segments ≡ self.old.segments }
+        ensures lanes { OnOk result (length self.new.nodes ≡ length self.old.nodes + 1) }
         ensures full { IfErr result (IsAddFault (length self.old.nodes)) }
         ensures room { IfOk result (λ lane. length self.old.nodes < 63) }
         ensures same { OnErr result (self.new ≡ self.old) }
@@ -241,6 +242,7 @@ impl Cluster {
         ensures fails { OnFault result (FailsAs (M.words mem.old) self.old (M.words mem.new)
             (Fails (actor_of actor))) }
         ensures segments { self.new.segments ≡ self.old.segments }
+        ensures lanes { length self.new.nodes ≡ length self.old.nodes }
         ensures count { CountsActed result (M.faults mem.old) (M.faults mem.new) }
     {
         match actor {
@@ -265,6 +267,7 @@ impl Cluster {
         ensures fails { OnFault result (FailsAs (M.words mem.old) self.old (M.words mem.new)
             (Fails (actor_of (Actor.Lane lane)))) }
         ensures segments { self.new.segments ≡ self.old.segments }
+        ensures lanes { length self.new.nodes ≡ length self.old.nodes }
         ensures count { CountsActed result (M.faults mem.old) (M.faults mem.new) }
     {
         let Some(at) = self.running(lane) else {
@@ -308,6 +311,7 @@ impl Cluster {
         ensures fails { OnFault result (FailsAs (M.words mem.old) self.old (M.words mem.new)
             (Fails (actor_of (Actor.Merger lane)))) }
         ensures segments { self.new.segments ≡ self.old.segments }
+        ensures lanes { length self.new.nodes ≡ length self.old.nodes }
         ensures count { CountsActed result (M.faults mem.old) (M.faults mem.new) }
     {
         let Some(at) = place_of(u32::from(lane), self.nodes.len()) else {
@@ -331,6 +335,7 @@ impl Cluster {
         ensures fails { OnFault result (FailsAs (M.words mem.old) self.old (M.words mem.new)
             (Fails (actor_of (Actor.Monitor)))) }
         ensures segments { self.new.segments ≡ self.old.segments }
+        ensures lanes { length self.new.nodes ≡ length self.old.nodes }
         ensures count { CountsActed result (M.faults mem.old) (M.faults mem.new) }
     {
         let Some(monitor) = &self.monitor else {
@@ -375,6 +380,7 @@ impl Cluster {
         ensures fails { OnFault result (FailsAs (M.words mem.old) self.old (M.words mem.new)
             (Fails (actor_of (Actor.Session session)))) }
         ensures segments { self.new.segments ≡ self.old.segments }
+        ensures lanes { length self.new.nodes ≡ length self.old.nodes }
         ensures count { CountsActed result (M.faults mem.old) (M.faults mem.new) }
     {
         let Some(at) = place_of(session, self.clients.len()) else {
@@ -418,6 +424,7 @@ impl Cluster {
         ensures fails { OnFault result (FailsAs (M.words mem.old) self.old (M.words mem.new)
             (FlowFails lane index)) }
         ensures segments { self.new.segments ≡ self.old.segments }
+        ensures lanes { length self.new.nodes ≡ length self.old.nodes }
         ensures count { CountsActed result (M.faults mem.old) (M.faults mem.new) }
     {
         let Some(at) = self.running(lane) else {
@@ -460,6 +467,7 @@ impl Cluster {
         ensures cause { IfErr result (Refuses (refused_in self.old lane)) }
         ensures same { OnErr result (self.new ≡ self.old) }
         ensures segments { self.new.segments ≡ self.old.segments }
+        ensures lanes { length self.new.nodes ≡ length self.old.nodes }
     {
         self.nodes[usize::from(lane) - 1].lane.begin(view, call)
     }
@@ -475,6 +483,7 @@ impl Cluster {
         ensures cause { IfErr result (Refuses (refused_in self.old lane)) }
         ensures same { OnErr result (self.new ≡ self.old) }
         ensures segments { self.new.segments ≡ self.old.segments }
+        ensures lanes { length self.new.nodes ≡ length self.old.nodes }
     {
         self.nodes[usize::from(lane) - 1].lane.begin_task(task)
     }
@@ -493,6 +502,7 @@ impl Cluster {
         ensures heirs { (lane : ℕ) (x : Monitoring) → order ≡ Order.Takeover lane
             → self.new.monitor ≡ Some x → AreHeirs live.now x.heirs }
         ensures segments { self.new.segments ≡ self.old.segments }
+        ensures lanes { length self.new.nodes ≡ length self.old.nodes }
     {
         self.monitor = Some(Monitor::new(order, live));
     }
@@ -501,6 +511,7 @@ impl Cluster {
     pub fn drop_order(&mut self)
         ensures does { Does self.old self.new Drops }
         ensures segments { self.new.segments ≡ self.old.segments }
+        ensures lanes { length self.new.nodes ≡ length self.old.nodes }
     {
         self.monitor = None;
     }
@@ -512,6 +523,7 @@ impl Cluster {
         requires slot { slot < 64 }
         ensures does { Does self.old self.new (Loads session slot) }
         ensures segments { self.new.segments ≡ self.old.segments }
+        ensures lanes { length self.new.nodes ≡ length self.old.nodes }
     {
         self.clients[session as usize - 1].load = Some(slot);
     }
@@ -523,6 +535,7 @@ impl Cluster {
         ensures does { Does self.old self.new (Stops lane) }
         ensures receipt { result ≡ ending_in self.old lane }
         ensures segments { self.new.segments ≡ self.old.segments }
+        ensures lanes { length self.new.nodes ≡ length self.old.nodes }
     {
         let at = self.running(lane)?;
         let session = self.nodes[at].lane.session();
@@ -552,6 +565,7 @@ impl Cluster {
         requires session { IsSession session }
         ensures does { Does self.old self.new (Closes session) }
         ensures segments { self.new.segments ≡ self.old.segments }
+        ensures lanes { length self.new.nodes ≡ length self.old.nodes }
     {
         self.clients[session as usize - 1].closed = true;
     }
@@ -561,6 +575,7 @@ impl Cluster {
         requires { IsMade self.old lane }
         ensures does { Does self.old self.new (Renews lane) }
         ensures segments { self.new.segments ≡ self.old.segments }
+        ensures lanes { length self.new.nodes ≡ length self.old.nodes }
     {
         let node = &mut self.nodes[usize::from(lane) - 1];
         node.merger = Merger::new(lane);
@@ -575,6 +590,7 @@ impl Cluster {
         ensures value { result ≡ view_of (session_at self.new session) key }
         ensures last { result.last.stamp < 2 ^ 31 }
         ensures segments { self.new.segments ≡ self.old.segments }
+        ensures lanes { length self.new.nodes ≡ length self.old.nodes }
     {
         self.clients[session as usize - 1].session.view(key)
     }
@@ -586,6 +602,7 @@ impl Cluster {
         requires stamp { position.stamp < 2 ^ 31 }
         ensures told { IsTold self.old self.new session position }
         ensures segments { self.new.segments ≡ self.old.segments }
+        ensures lanes { length self.new.nodes ≡ length self.old.nodes }
     {
         self.hear(session, position);
     }
@@ -597,6 +614,7 @@ impl Cluster {
         ensures does { OnOk result (Does self.old self.new (Hints session pairs.now)) }
         ensures same { OnErr result (self.new ≡ self.old) }
         ensures segments { self.new.segments ≡ self.old.segments }
+        ensures lanes { length self.new.nodes ≡ length self.old.nodes }
     {
         self.clients[session as usize - 1].session.hints(pairs)
     }

@@ -18,7 +18,7 @@ use Rattle.dn_cluster.proofs.Events.{left_node, lane_acts, lane_idles}
 use Rattle.dn_cluster.proofs.Found.{takes, made_of, lane_within, no_owner, turn_in}
 use Rattle.dn_cluster.proofs.OtherEvents.{lane_fails_so}
 use Rattle.dn_cluster.proofs.Places.{runs_is, now_running}
-use Rattle.dn_cluster.proofs.Takes.{taken_segments}
+use Rattle.dn_cluster.proofs.Takes.{taken_segments, taken_lanes}
 use Rattle.dn_cluster.proofs.clusters.Cluster.act_lane.Goals as goal
 
 pub returns-in_default-next-clause-answer : goal.returns-in_default-next-clause-answer
@@ -113,3 +113,9 @@ returns-in-Err-clause-next g c = λ _.
     let next : next_of c.index.result.now.lane ≡ Some c.in-Some-next.action = sym c.next.ensures.value ∙ c.in-Some-next.is in
     ap is_nothing (ap (λ (o : Option LaneState). lane_answer (g.M.Memory.words c.args.mem.now) o) (runs_is c.args.self.now c.args.lane c.in-Some.at r)
     ∙ ap (λ (o : Option Action). lane_found (g.M.Memory.words c.args.mem.now) c.index.result.now.lane o) next)
+
+pub returns-in-Ok-clause-lanes : goal.returns-in-Ok-clause-lanes
+returns-in-Ok-clause-lanes g c =
+    let b : ClusterState = state_of c.self.inside in
+    let r : RunsAt c.args.self.now c.args.lane c.in-Some.at = now_running b c.args.self.now c.args.lane c.in-Some.at c.in-Some.ensures.some c.index.result.now c.self.view_is c.index.ensures in
+    taken_lanes c.args.self.now c.lane_takes.new.self c.in-Some.at (left_node c.index.result.now c.in-Ok.word) (made_at c.lane_takes.result) (c.lane_takes.ensures.after c.index.result.now r.is)

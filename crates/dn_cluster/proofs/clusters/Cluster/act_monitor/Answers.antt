@@ -1,4 +1,4 @@
-use Rattle.std.proofs.Common.{◌≡◌, Option, Some, refl, sym, ◌∙◌, ap, arith}
+use Rattle.std.proofs.Common.{length, ◌≡◌, Option, Some, refl, sym, ◌∙◌, ap, arith}
 use Rattle.dn_act.specs.declared.actions.Action.{Action}
 use Rattle.dn_monitor.specs.Monitor.{Monitoring, monitor_next}
 use Rattle.dn_cluster.specs.Acting.{is_nothing, monitor_answer, monitor_found}
@@ -34,3 +34,8 @@ returns-in-Err-clause-next g c = λ _.
     let monitor : c.args.self.now.monitor ≡ Some c.in-Some.monitor = ap (λ (x : ClusterState). x.monitor) (sym c.self.view_is) ∙ c.in-Some.is in
     let next : monitor_next c.in-Some.monitor ≡ Some c.in-Some-next.action = sym c.next.ensures.value ∙ c.in-Some-next.is in
     ap is_nothing (ap (λ (o : Option Monitoring). monitor_answer (g.M.Memory.words c.args.mem.now) o) monitor ∙ ap (λ (o : Option Action). monitor_found (g.M.Memory.words c.args.mem.now) c.in-Some.monitor o) next)
+
+pub returns-in-Ok-clause-lanes : goal.returns-in-Ok-clause-lanes
+returns-in-Ok-clause-lanes g c =
+    let monitor : c.args.self.now.monitor ≡ Some c.in-Some.monitor = ap (λ (x : ClusterState). x.monitor) (sym c.self.view_is) ∙ c.in-Some.is in
+    ap (λ (x : ClusterState). length x.nodes) (c.monitor_takes.ensures.after c.in-Some.monitor monitor)

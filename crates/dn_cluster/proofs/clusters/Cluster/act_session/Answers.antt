@@ -105,3 +105,10 @@ returns-in-Err-clause-next g c = λ _.
     c.in-Some.ensures.some.0 (omega (arith, c.in-Some.ensures.some.1, c.len.ensures)) c.index.ensures in
     let load : load_in (numbered c.args.self.now.clients c.args.session) ≡ Some c.in-Some-load.slot = ap load_in (client_is c.args.self.now c.args.session c.in-Some.at h) ∙ c.in-Some-load.is in
     ap is_nothing (ap (λ (o : Option ℕ). session_answer (g.M.Memory.words c.args.mem.now) o) load)
+
+pub returns-in-Ok-clause-lanes : goal.returns-in-Ok-clause-lanes
+returns-in-Ok-clause-lanes g c =
+    let b : ClusterState = state_of c.self.inside in
+    let h : HasClient c.args.self.now c.args.session c.in-Some.at = now_client b c.args.self.now c.args.session c.in-Some.at c.index.result.now c.self.view_is
+    c.in-Some.ensures.some.0 (omega (arith, c.in-Some.ensures.some.1, c.len.ensures)) c.index.ensures in
+    ap (λ (x : ClusterState). length x.nodes) (c.session_takes.ensures c.index.result.now h.is)

@@ -1,4 +1,5 @@
-use Rattle.std.proofs.Common.{◌≡◌, Option, Some, None, refl, sym, ◌∙◌, ap}
+use Rattle.std.proofs.Common.{length, ◌≡◌, Option, Some, None, refl, sym, ◌∙◌, ap}
+use Rattle.std.proofs.lemmas.List.{length-set}
 use Rattle.std.proofs.lemmas.Option.{slice_get_within}
 use Rattle.dn_log.specs.Staged.{flow_of}
 use Rattle.dn_lane2.specs.State.{LaneState}
@@ -7,7 +8,7 @@ use Rattle.dn_cluster.specs.Acting.{is_nothing, flow_answer, flow_found}
 use Rattle.dn_cluster.specs.Asks.{RunsAt}
 use Rattle.dn_cluster.specs.Inside.{state_of}
 use Rattle.dn_cluster.proofs.Found.{lane_within}
-use Rattle.dn_cluster.proofs.OtherEvents.{lane_flows_so, flow_rests, flow_idles, flow_fails_so}
+use Rattle.dn_cluster.proofs.OtherEvents.{flowed_node, lane_flows_so, flow_rests, flow_idles, flow_fails_so}
 use Rattle.dn_cluster.proofs.Places.{runs_is, now_running}
 use Rattle.dn_cluster.proofs.clusters.Cluster.flow.Goals as goal
 
@@ -77,3 +78,9 @@ returns-in-Err-clause-next g c = λ _.
     let r : RunsAt c.args.self.now c.args.lane c.in-Some.at = now_running b c.args.self.now c.args.lane c.in-Some.at c.in-Some.ensures.some c.index.result.now c.self.view_is c.index.ensures in
     let flow : flow_of c.index.result.now.lane.base.staging c.args.index ≡ Some c.in-Some-flow.action = sym c.flow.ensures.value ∙ c.in-Some-flow.is in
     ap is_nothing (ap (λ (o : Option LaneState). flow_answer o c.args.index) (runs_is c.args.self.now c.args.lane c.in-Some.at r) ∙ ap flow_found flow)
+
+pub returns-in-Ok-clause-lanes : goal.returns-in-Ok-clause-lanes
+returns-in-Ok-clause-lanes g c =
+    let b : ClusterState = state_of c.self.inside in
+    let r : RunsAt c.args.self.now c.args.lane c.in-Some.at = now_running b c.args.self.now c.args.lane c.in-Some.at c.in-Some.ensures.some c.index.result.now c.self.view_is c.index.ensures in
+    ap (λ (x : ClusterState). length x.nodes) (c.lane_flows.ensures c.index.result.now r.is) ∙ length-set c.args.self.now.nodes c.in-Some.at (flowed_node c.index.result.now c.args.index)

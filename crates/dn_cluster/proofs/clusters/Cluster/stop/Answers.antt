@@ -1,4 +1,5 @@
-use Rattle.std.proofs.Common.{ℕ, ◌≡◌, ◌<◌, ◌≤◌, slice_get, refl, sym, ◌∙◌, ap, arith}
+use Rattle.std.proofs.Common.{length, ℕ, ◌≡◌, ◌<◌, ◌≤◌, slice_get, refl, sym, ◌∙◌, ap, arith}
+use Rattle.std.proofs.lemmas.List.{length-set}
 use Rattle.dn_lane2.specs.Asked.{view_in}
 use Rattle.dn_cluster.specs.State.{ClusterState}
 use Rattle.dn_cluster.specs.Asks.{RunsAt}
@@ -75,3 +76,23 @@ returns-in_default-clause-segments c =
     let r : RunsAt c.args.self.now n at = now_running b c.args.self.now n at c.in_ok-at.ensures.some x c.self.view_is c.index.ensures in
     let after : c.halt-receipt.new.self ≡ with_node c.args.self.now at (stopped_node x) = c.halt-receipt.ensures.after x r.is in
     ap (λ (z : ClusterState). z.segments) after
+
+pub returns-in-Some-clause-lanes : goal.returns-in-Some-clause-lanes
+returns-in-Some-clause-lanes c =
+    let b : ClusterState = state_of c.self.inside in
+    let n : ℕ = c.args.lane in
+    let at : ℕ = c.in_ok-at.at in
+    let x : Node = c.index.result.now in
+    let r : RunsAt c.args.self.now n at = now_running b c.args.self.now n at c.in_ok-at.ensures.some x c.self.view_is c.index.ensures in
+    let after : c.halt-receipt.new.self ≡ with_node c.args.self.now at (stopped_node x) = c.halt-receipt.ensures.after x r.is in
+    ap (λ (z : ClusterState). length z.nodes) (c.self-2.view_is ∙ after) ∙ length-set c.args.self.now.nodes at (stopped_node x)
+
+pub returns-in_default-clause-lanes : goal.returns-in_default-clause-lanes
+returns-in_default-clause-lanes c =
+    let b : ClusterState = state_of c.self.inside in
+    let n : ℕ = c.args.lane in
+    let at : ℕ = c.in_ok-at.at in
+    let x : Node = c.index.result.now in
+    let r : RunsAt c.args.self.now n at = now_running b c.args.self.now n at c.in_ok-at.ensures.some x c.self.view_is c.index.ensures in
+    let after : c.halt-receipt.new.self ≡ with_node c.args.self.now at (stopped_node x) = c.halt-receipt.ensures.after x r.is in
+    ap (λ (z : ClusterState). length z.nodes) after ∙ length-set c.args.self.now.nodes at (stopped_node x)
