@@ -1,0 +1,1 @@
+//! What is so of worlds, as functions without work: what each says is its contract.

@@ -1,0 +1,12 @@
+//! What a world of a cluster is given, event by event, and what comes of each: definitions, and laws of them.
+//!
+//! A world is a machine, the calls and tasks that wait, and the lanes that are live. One function says of every event what
+//! the world is after it and what its outcome is; `dn_world2` carries it out.
+#![tactic(auto)]
+
+mod events;
+pub mod laws;
+mod outcomes;
+
+pub use events::Event;
+pub use outcomes::{CallAnswer, Outcome};
