@@ -1,6 +1,6 @@
-use Rattle.std.specs.Prelude.{◌≡◌, ◌≢◌, ◌≤◌, ◌<◌, ◌^◌, ℕ, Bool, true, false, List, [], Option, Some, None, Contains, All, length}
+use Rattle.std.specs.Prelude.{◌≡◌, ◌≤◌, ◌<◌, ◌^◌, ℕ, Bool, true, false, List, [], Option, Some, None, Contains, All}
 use Rattle.std.specs.List.Sorted.{IsStrictlyIncreasing}
-use Rattle.dn_hist.specs.declared.calls.Call.{Call}
+use Rattle.dn_hist.specs.declared.receipts.Receipt.{Receipt}
 use Rattle.dn_hist.specs.declared.receipts.SessionView.{SessionView}
 use Rattle.dn_merge.specs.Merge.{Merging}
 use Rattle.dn_model.specs.Regions.{IsLane}
@@ -9,18 +9,21 @@ use Rattle.dn_monitor.specs.Monitor.{IsOrder}
 use Rattle.dn_monitor.specs.declared.orders.Order.{Order}
 use Rattle.dn_monitor.specs.declared.orders.Order.TheVariants as order
 use Rattle.dn_route.specs.SessionState.{SessionState}
-use Rattle.dn_lane2.specs.Left.{is_working}
+use Rattle.dn_ask.specs.declared.asks.Act.TheVariants as act
+use Rattle.dn_ask.specs.declared.asks.FindRoom.TheVariants as room
+use Rattle.dn_ask.specs.declared.asks.Locate.TheVariants as locate
+use Rattle.dn_ask.specs.declared.asks.Seal.TheVariants as seal
 use Rattle.dn_lane2.specs.State.{LaneState}
 use Rattle.dn_lane2.specs.declared.asked.Asked.{Asked}
 use Rattle.dn_lane2.specs.declared.asked.Asked.TheVariants as asked
+use Rattle.dn_lane2.specs.declared.modes.Mode.{Mode}
+use Rattle.dn_lane2.specs.declared.modes.Mode.TheVariants as mode
 use Rattle.dn_lanes.specs.Begun.{IsOwnTask}
 use Rattle.dn_lanes.specs.Calls.{IsCall}
 use Rattle.dn_tend.specs.declared.tasks.Task.{Task}
-use Rattle.dn_callers.specs.Callers.{Callers}
+use Rattle.dn_callers.specs.Callers.{Callers, receipts_of}
 use Rattle.dn_callers.specs.Sessions.{IsSession, IsUnderWay}
-use Rattle.dn_machine.specs.State.{Machine}
 use Rattle.dn_machine.specs.Sound.{IsSound}
-use Rattle.dn_waiting.specs.Queues.{AtLane}
 use Rattle.dn_waiting.specs.Sound.{IsSound as AreSound}
 use Rattle.dn_waiting.specs.State.{WaitingState, call_of, at_lane}
 use Rattle.dn_waiting.specs.declared.calls.OpenCall.{OpenCall}
@@ -28,7 +31,7 @@ use Rattle.dn_waiting.specs.declared.calls.Place.{Place}
 use Rattle.dn_waiting.specs.declared.calls.Place.TheVariants.{Loading, Queued, Begun}
 use Rattle.dn_outcomes.specs.declared.events.Event.{Event}
 use Rattle.dn_outcomes.specs.declared.events.Event.TheVariants as event
-use Rattle.dn_outcomes.specs.State.{World, is_made}
+use Rattle.dn_outcomes.specs.State.{World}
 use Rattle.dn_outcomes.specs.Going.{called, slot_at}
 
 -- What is sound of a world.
@@ -39,11 +42,12 @@ pub record IsCaller (s : SessionState) : Type 0 where
   pub hints : s.hints ≡ []
   pub stamp : s.last.stamp < 2 ^ 31
 
--- the call of session s, which isn't closed, is its last one
+-- the call of session s, which isn't closed, is its last one, and isn't made
 pub record IsCallOf (c : Callers) (s : ℕ) (x : OpenCall) : Type 0 where
   pub unclosed : c.closed s ≡ false
   pub number : x.number ≡ (c.sessions s).number
   pub fits : IsCall x.call
+  pub unmade : (r : Receipt) → Contains (receipts_of c.receipts) r → r.position.session ≡ s → r.number < x.number
 
 -- the deed that a session loads next: that of its call's slot, where the call stands at a load
 abbrev pub load_at : Place → ℕ → Option ℕ
@@ -84,10 +88,28 @@ IsAskedBy w asked.Nothing = Unit {0}
 IsAskedBy w (asked.Call call view room) = called (call_of w view.session) ≡ call
 IsAskedBy w asked.Task = Unit {0}
 
+-- the plan that a lane carries out is none of a task
+abbrev pub is_calling : Mode → Bool
+is_calling mode.Idle = true
+is_calling (mode.Acting (act.Call phase)) = true
+is_calling (mode.Acting (act.Task phase)) = false
+is_calling (mode.Finding (locate.Call phase) find) = true
+is_calling (mode.Finding (locate.Task phase) find) = false
+is_calling (mode.Claiming (room.Call phase) claim) = true
+is_calling (mode.Claiming (room.Task phase) claim) = false
+is_calling (mode.Sealing (seal.Call phase) sealing) = true
+is_calling (mode.Sealing (seal.Task phase) sealing) = false
+
+-- a call has a call's plan
+abbrev pub IsPlanOf : Asked → Mode → Type 0
+IsPlanOf asked.Nothing m = Unit {0}
+IsPlanOf (asked.Call call view room) m = is_calling m ≡ true
+IsPlanOf asked.Task m = Unit {0}
+
 pub record AreAsked (w : WaitingState) (lanes : ℕ → Option LaneState) : Type 0 where
   pub begun : (n : ℕ) → IsLane n → (at_lane w n).begun ≡ view_at (lanes n)
   pub calls : (n : ℕ) (l : LaneState) → IsLane n → lanes n ≡ Some l → IsAskedBy w l.asked
-  pub idle : (n : ℕ) (l : LaneState) → IsLane n → lanes n ≡ Some l → is_working l.mode ≡ false → view_by l.asked ≡ None
+  pub plans : (n : ℕ) (l : LaneState) → IsLane n → lanes n ≡ Some l → IsPlanOf l.asked l.mode
 
 -- lanes are made in the order of their numbers
 pub record AreMade (made : ℕ) (mergers : ℕ → Option Merging) : Type 0 where

@@ -4,7 +4,7 @@ use Rattle.dn_hist.specs.declared.calls.Call.{Call}
 use Rattle.dn_model.specs.Regions.{slot_of}
 use Rattle.dn_route.specs.SessionState.{SessionState, view_of}
 use Rattle.dn_machine.specs.Events.{Session, Acts, Numbers}
-use Rattle.dn_waiting.specs.State.{WaitingState, call_of}
+use Rattle.dn_waiting.specs.State.{call_of}
 use Rattle.dn_waiting.specs.Attempts.{at_first, course_to, started, loaded, after_load, named_in, course_loaded}
 use Rattle.dn_waiting.specs.declared.calls.Course.{Course}
 use Rattle.dn_waiting.specs.declared.calls.Course.TheVariants as course
@@ -12,7 +12,7 @@ use Rattle.dn_waiting.specs.declared.calls.OpenCall.{OpenCall}
 use Rattle.dn_outcomes.specs.declared.outcomes.Outcome.{Outcome}
 use Rattle.dn_outcomes.specs.declared.outcomes.Outcome.TheVariants.{Nothing, Acted, Numbered, Busy, Closed, NoLane, GivenUp}
 use Rattle.dn_outcomes.specs.State.{World, Done, done, with_event, with_waiting, may_name}
-use Rattle.dn_outcomes.specs.Going.{goes_on, called}
+use Rattle.dn_outcomes.specs.Going.{goes_on}
 
 -- What sessions do: they start calls, and load deeds.
 

@@ -12,21 +12,38 @@ pub enum Event {
         call: Call,
     },
     /// A lane makes its next action. With nothing under way it first takes up what waits: a task before a call.
-    Step { lane: u8 },
+    Step {
+        lane: u8,
+    },
     /// A staged word of a lane flows out of turn: the one at this place from the oldest, which is 0.
-    Flow { lane: u8, index: u32 },
+    Flow {
+        lane: u8,
+        index: u32,
+    },
     /// The merger of a lane makes its next action.
-    Merge { lane: u8 },
+    Merge {
+        lane: u8,
+    },
     /// The monitor makes its next action.
     Monitor,
     /// A session loads the deed that its call waits for.
-    Refresh { session: u32 },
+    Refresh {
+        session: u32,
+    },
     /// The monitor is given an order.
-    Give { order: Order },
+    Give {
+        order: Order,
+    },
     /// A task arrives at a lane.
-    Queue { lane: u8, task: Task },
+    Queue {
+        lane: u8,
+        task: Task,
+    },
     /// A lane is added.
     Add,
     /// The session `to` is told the last position of the session `from`.
-    Tell { from: u32, to: u32 },
+    Tell {
+        from: u32,
+        to: u32,
+    },
 }

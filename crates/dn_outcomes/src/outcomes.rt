@@ -30,7 +30,9 @@ pub enum Outcome {
     /// The event was carried out, and nothing ended by it.
     Acted,
     /// The call has this number in its session.
-    Numbered { number: u32 },
+    Numbered {
+        number: u32,
+    },
     /// The session has a call already. Nothing is changed.
     Busy,
     /// The session is closed. Nothing is changed.
@@ -43,7 +45,10 @@ pub enum Outcome {
         given: bool,
     },
     /// The load of a deed was the last attempt that a call had: it is given up.
-    GivenUp { session: u32, number: u32 },
+    GivenUp {
+        session: u32,
+        number: u32,
+    },
     /// What the monitor tells of its order.
     Ordered(MonitorAnswer),
     /// An order is under way already. Nothing is changed.
@@ -51,7 +56,9 @@ pub enum Outcome {
     /// A task has ended.
     Tended(TaskAnswer),
     /// A lane with this number was added.
-    Added { lane: u8 },
+    Added {
+        lane: u8,
+    },
     /// There are 63 lanes, the most there may be. Nothing is changed.
     LanesFull,
     /// A lane that the event names wasn't made, or the target of a move isn't live. Nothing is changed.
@@ -59,5 +66,7 @@ pub enum Outcome {
     /// A merger's turn ended with all merged, or without a bucket.
     Merged(MergeTurn),
     /// The access of this actor failed: its action was done or not done.
-    Fault { actor: Actor },
+    Fault {
+        actor: Actor,
+    },
 }
