@@ -15,16 +15,12 @@ use Rattle.dn_monitor.specs.declared.orders.MonitorTurn.TheVariants as turn
 use Rattle.dn_lane2.specs.State.{LaneState}
 use Rattle.dn_machine.specs.Events.{Monitor, Acts, Orders, found}
 use Rattle.dn_waiting.specs.Turns.{released}
+use Rattle.dn_outcomes.specs.declared.leaving.Leaving.{Leaving}
 use Rattle.dn_outcomes.specs.declared.outcomes.Outcome.{Outcome}
 use Rattle.dn_outcomes.specs.declared.outcomes.Outcome.TheVariants.{Nothing, Acted, Ordered, MonitorBusy, NoLane}
 use Rattle.dn_outcomes.specs.State.{World, Done, done, with_event, with_waiting, is_made, is_live}
 
 -- What the monitor does, and the releases that it leads to.
-
--- a slot that a lane is to release
-pub record Leaving : Type 0 where
-  pub lane : ℕ
-  pub slot : ℕ
 
 -- ---- which release is to be queued
 abbrev pub asks_to_leave : DeedState → Bool

@@ -6,7 +6,9 @@
 
 mod events;
 pub mod laws;
+mod leaving;
 mod outcomes;
 
 pub use events::Event;
+pub use leaving::Leaving;
 pub use outcomes::{CallAnswer, Outcome};

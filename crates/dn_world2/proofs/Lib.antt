@@ -1,0 +1,10 @@
+pub mod Worlds
+pub mod Going
+pub mod Starting
+pub mod Routing
+pub mod Refreshing
+pub mod LaneActs
+pub mod TakingUp
+pub mod Stepping
+pub mod Others
+pub mod Giving

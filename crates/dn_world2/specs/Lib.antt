@@ -1,0 +1,5 @@
+pub mod State
+pub mod Inside
+pub mod Comes
+pub mod Takes
+pub mod Gives
