@@ -110,7 +110,7 @@ try_hint w n view h lane e = (may_begin w n view h lane e).hint
 pub try_stamp : (w : World) (n : ℕ) (view : SessionView) → IsWorld w → IsLane n → next_at (at_lane w.waiting n) ≡ Try view → view.last.stamp < 2 ^ 31
 try_stamp w n view h lane e = (may_begin w n view h lane e).stamp
 
-shown_call : (view : SessionView) (o : Option OpenCall) → Shows view o → (c : OpenCall) × (o ≡ Some c)
+pub shown_call : (view : SessionView) (o : Option OpenCall) → Shows view o → (c : OpenCall) × (o ≡ Some c)
 shown_call view None h = absurd h
 shown_call view (Some c) h = (c, refl)
 
