@@ -1,5 +1,6 @@
-use Rattle.std.proofs.Common.{ℕ, List}
+use Rattle.std.proofs.Common.{ℕ, List, [], ◌∷◌}
 use Rattle.dn_outcomes.specs.Does.{queues, does}
+use Rattle.dn_outcomes.specs.Runs.{after, IsRun}
 use Rattle.dn_outcomes.specs.Sound.{MayHappen, IsWorld}
 use Rattle.dn_outcomes.specs.State.{World}
 use Rattle.dn_outcomes.specs.Steps.{step, flow, merge}
@@ -23,3 +24,7 @@ kept w (event.Give o) heirs h may = give_kept w o heirs h may.0 may.1
 kept w (event.Queue n t) heirs h may = on_lane_kept w n (queues w n t (w.machine.lanes n)) h (λ e. queues_kept w n t (w.machine.lanes n) h (made_lane w n h e) may)
 kept w event.Add heirs h may = adds_kept w h
 kept w (event.Tell s t) heirs h may = tells_kept w s t h may.0 may.1
+
+pub runs : (w : World) (es : List (Event × List ℕ)) → IsWorld w → IsRun w es → IsWorld (after w es)
+runs w [] h run = h
+runs w (x ∷ xs) h run = runs (does w x.0 x.1).world xs (kept w x.0 x.1 h run.0) run.1

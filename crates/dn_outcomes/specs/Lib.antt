@@ -5,3 +5,4 @@ pub mod Steps
 pub mod Orders
 pub mod Does
 pub mod Sound
+pub mod Runs
