@@ -1,6 +1,12 @@
 //! What is so of worlds, as functions without work: what each says is its contract.
 
-ghost use Rattle.std.specs.Prelude.{ℕ, List};
+ghost use Rattle.std.specs.Prelude.{◌≡◌, ℕ, List};
+ghost use Rattle.dn_hist.specs.Calls.{Bytes};
+ghost use Rattle.dn_hist.specs.Replay.{IsLegal, map_left};
+ghost use Rattle.dn_hist.specs.declared.receipts.Receipt.{Receipt};
+ghost use Rattle.dn_model.specs.PoolMap.{HoldsMap};
+ghost use Rattle.dn_route.specs.CallersOrder.{KeepsCallersOrder};
+ghost use Rattle.dn_machine.specs.Histories.{IsHistory};
 ghost use Rattle.dn_machine.specs.Sound.{IsSound};
 ghost use Rattle.dn_machine.specs.State.{resting};
 ghost use Rattle.dn_outcomes.specs.Does.{does};
@@ -18,4 +24,18 @@ pub fn worlds()
         → IsWorld (does w e heirs).world }
     ensures runs { (w : World) (es : List (Event × List ℕ)) → IsWorld w → IsRun w es
         → IsWorld (after w es) }
+{}
+
+/// Whatever has happened in a world, the receipts that stand, in order of position, are a history in which each session's
+/// calls stand in the order in which it made them, behind all that it knew: a plain map that starts empty gives each call
+/// the reply of its receipt, and in the end it is what the words hold, which hold no other map.
+pub fn histories()
+    ensures legal { (w : World) (hs : List Receipt) → IsWorld w → IsHistory w.machine hs
+        → IsLegal hs }
+    ensures order { (w : World) (hs : List Receipt) → IsWorld w → IsHistory w.machine hs
+        → KeepsCallersOrder w.machine.callers.told hs }
+    ensures map { (w : World) (hs : List Receipt) → IsWorld w → IsHistory w.machine hs
+        → HoldsMap w.machine.words (map_left hs) }
+    ensures alone { (w : World) (hs : List Receipt) (map : Bytes) → IsWorld w
+        → IsHistory w.machine hs → HoldsMap w.machine.words map → map ≡ map_left hs }
 {}
