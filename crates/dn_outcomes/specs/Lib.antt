@@ -6,3 +6,4 @@ pub mod Orders
 pub mod Does
 pub mod Sound
 pub mod Runs
+pub mod Told
