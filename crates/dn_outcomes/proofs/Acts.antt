@@ -78,22 +78,22 @@ last_stamp segments m c r o h is e =
     omega (arith, (are_bound segments m h).each x has, bound_low m.words (key_of r.call))
 
 -- ---- what a lane is asked stays
-view_same : (a b : Asked) → SameCall a b → view_by b ≡ view_by a
+pub view_same : (a b : Asked) → SameCall a b → view_by b ≡ view_by a
 view_same asked.Nothing b same = ap view_by same
 view_same (asked.Call call view room) b same = ap view_by same.1
 view_same asked.Task b same = ap view_by same
 
-asked_same : (w : WaitingState) (a b : Asked) → SameCall a b → IsAskedBy w a → IsAskedBy w b
+pub asked_same : (w : WaitingState) (a b : Asked) → SameCall a b → IsAskedBy w a → IsAskedBy w b
 asked_same w asked.Nothing b same h = subst (IsAskedBy w) (sym same) tt
 asked_same w (asked.Call call view room) b same h = subst (IsAskedBy w) (sym same.1) h
 asked_same w asked.Task b same h = subst (IsAskedBy w) (sym same) tt
 
-its_view : (a : Asked) (view : SessionView) → view_by a ≡ Some view → view_in a ≡ view
+pub its_view : (a : Asked) (view : SessionView) → view_by a ≡ Some view → view_in a ≡ view
 its_view asked.Nothing view e = absurd (none-some view e)
 its_view (asked.Call call v room) view e = same_Some v view e
 its_view asked.Task view e = absurd (none-some view e)
 
-under_way : (c : Callers) (a : Asked) (view : SessionView) → view_by a ≡ Some view → HasCall c a → IsUnderWay c view
+pub under_way : (c : Callers) (a : Asked) (view : SessionView) → view_by a ≡ Some view → HasCall c a → IsUnderWay c view
 under_way c asked.Nothing view e h = absurd (none-some view e)
 under_way c (asked.Call call v room) view e h = subst (IsUnderWay c) (same_Some v view e) h.0
 under_way c asked.Task view e h = absurd (none-some view e)
@@ -113,10 +113,10 @@ pub record IsAction (w : World) (n : ℕ) (l : LaneState) (words : List ℕ) (g 
   pub plan : IsPlanGoing b going
   pub its : (r : Receipt) → receipt_by (turn_going b going) ≡ Some r → IsOfCall l r
 
-abbrev world_after : World → ℕ → List ℕ → Base → Asked → Going → World
+abbrev pub world_after : World → ℕ → List ℕ → Base → Asked → Going → World
 world_after w n words g b going = record w { machine = machine_after w.machine n words g b going }
 
-begun_there : (w : World) (n : ℕ) (l : LaneState) (words : List ℕ) (g : Base) (b : Asked) (going : Going) → IsAction w n l words g b going → (at_lane w.waiting n).begun ≡ view_by b
+pub begun_there : (w : World) (n : ℕ) (l : LaneState) (words : List ℕ) (g : Base) (b : Asked) (going : Going) → IsAction w n l words g b going → (at_lane w.waiting n).begun ≡ view_by b
 begun_there w n l words g b going h = h.world.asked.begun n h.lane ∙ ap view_at h.is ∙ sym (view_same l.asked b h.same)
 
 -- where nothing ends, or no call
@@ -233,19 +233,21 @@ action_kept w n l words g b (On m) h = goes_on_so w n l words g b m h
 action_kept w n l words g b (End e) h = ends_so w n l words g b e h
 
 -- ---- the lane's action
-acted_is : (m : Machine) (n : ℕ) (l : LaneState) (action : Action) → m.lanes n ≡ Some l → next_of l ≡ Some action → happens m (Acts (Lane n)) ≡ lane_does m n l (Some action)
+pub acted_is : (m : Machine) (n : ℕ) (l : LaneState) (action : Action) → m.lanes n ≡ Some l → next_of l ≡ Some action → happens m (Acts (Lane n)) ≡ lane_does m n l (Some action)
 acted_is m n l action is next = ap (λ (o : Option LaneState). of_lane m o (λ y. lane_does m n y (next_of y))) is ∙ ap (λ (o : Option Action). lane_does m n l o) next
 
-acts_so : (w : World) (n : ℕ) (l : LaneState) (action : Action) → IsWorld w → IsLane n → w.machine.lanes n ≡ Some l → next_of l ≡ Some action → IsWorld (acts_by w n l (Some action)).world
-acts_so w n l action h lane is next =
+-- what it comes to
+abbrev pub taken_of : World → LaneState → Action → Taken
+taken_of w l action = taken_by l.base l.asked l.mode (found w.machine action)
+
+pub lane_action : (w : World) (n : ℕ) (l : LaneState) (action : Action) → IsWorld w → IsLane n → w.machine.lanes n ≡ Some l → next_of l ≡ Some action
+    → (let t : Taken = taken_of w l action in IsAction w n l (words_after action w.machine.words) t.base t.asked t.going)
+lane_action w n l action h lane is next =
     let word : ℕ = found w.machine action in
     let words : List ℕ = words_after action w.machine.words in
-    let t : Taken = taken_by l.base l.asked l.mode word in
     let stepped : LaneStepped h.machine.p n l word words = lane_comes h.machine.p w.machine n l action h.machine.at is next in
     let machine : IsSound w.segments (lane_does w.machine n l (Some action)) =
-    subst (λ (x : Machine). IsSound w.segments x) (acted_is w.machine n l action is next) (sound w.segments w.machine (Acts (Lane n)) h.machine tt) in
-    subst (λ (x : Machine). IsWorld (by_turn (record w { machine = x }) n (turn_of l word)).world) (sym (acted_is w.machine n l action is next))
-    (action_kept w n l words t.base t.asked t.going (record {
+    subst (λ (x : Machine). IsSound w.segments x) (acted_is w.machine n l action is next) (sound w.segments w.machine (Acts (Lane n)) h.machine tt) in record {
       world = h;
       lane = lane;
       is = is;
@@ -253,7 +255,13 @@ acts_so w n l action h lane is next =
       same = taken_same l.base l.asked l.mode word;
       plan = taken_plan l.base l.asked l.mode word (taken_same l.base l.asked l.mode word) (h.asked.plans n l lane is);
       its = stepped.its;
-    }))
+    }
+
+acts_so : (w : World) (n : ℕ) (l : LaneState) (action : Action) → IsWorld w → IsLane n → w.machine.lanes n ≡ Some l → next_of l ≡ Some action → IsWorld (acts_by w n l (Some action)).world
+acts_so w n l action h lane is next =
+    let t : Taken = taken_of w l action in
+    subst (λ (x : Machine). IsWorld (by_turn (record w { machine = x }) n (turn_of l (found w.machine action))).world) (sym (acted_is w.machine n l action is next))
+    (action_kept w n l (words_after action w.machine.words) t.base t.asked t.going (lane_action w n l action h lane is next))
 
 pub acts_by_kept : (w : World) (n : ℕ) (l : LaneState) → IsWorld w → IsLane n → w.machine.lanes n ≡ Some l → IsWorld (acts_by w n l (next_of l)).world
 acts_by_kept w n l h lane is = by_next (next_of l) refl where

@@ -50,11 +50,11 @@ rests_view : (w : World) (n : ℕ) (l : LaneState) → IsAtRest w n l → view_a
 rests_view w n l h = ap view_at h.is ∙ ap view_by (rests_asked w.segments w.machine n l h.world.machine h.is h.rests)
 
 -- what waits, and what lanes were asked but for this one, when it has taken something up: the attempt that is under way
-record HasTaken (w : World) (n : ℕ) (v : WaitingState) (begun : Option SessionView) : Type 0 where
-  sound : AreSound v
-  calls : AreCalls v w.machine.callers w.machine.loads
-  asked : AskedBeside n v w.machine.lanes
-  begun_is : (at_lane v n).begun ≡ begun
+pub record HasTaken (w : World) (n : ℕ) (v : WaitingState) (begun : Option SessionView) : Type 0 where
+  pub sound : AreSound v
+  pub calls : AreCalls v w.machine.callers w.machine.loads
+  pub asked : AskedBeside n v w.machine.lanes
+  pub begun_is : (at_lane v n).begun ≡ begun
 
 taken_sound : (w : World) (n : ℕ) (l : LaneState) → IsAtRest w n l → AreSound (taken_up w.waiting n)
 taken_sound w n l h = taken_up_sound w.waiting n h.world.waiting (omega (arith, h.lane.positive), omega (arith, h.lane.below)) (rests_begun w n l h.world h.lane h.is h.rests)
@@ -96,12 +96,12 @@ behind_task at task f t has = subst (λ ts. Contains ts t) (sym f.tasks_are) (fu
   further : Contains f.rest t → Contains (task ∷ f.rest) t
   further (k, lt, e) = (suc k, omega (arith, lt), e)
 
-record HasTried (w : World) (n : ℕ) (view : SessionView) : Type 0 where
-  taken : HasTaken w n (taken_up w.waiting n) (Some view)
-  session : IsSession view.session
-  same : called (call_of (taken_up w.waiting n) view.session) ≡ called (call_of w.waiting view.session)
+pub record HasTried (w : World) (n : ℕ) (view : SessionView) : Type 0 where
+  pub taken : HasTaken w n (taken_up w.waiting n) (Some view)
+  pub session : IsSession view.session
+  pub same : called (call_of (taken_up w.waiting n) view.session) ≡ called (call_of w.waiting view.session)
 
-has_tried : (w : World) (n : ℕ) (l : LaneState) (view : SessionView) → IsAtRest w n l → next_at (at_lane w.waiting n) ≡ Try view → HasTried w n view
+pub has_tried : (w : World) (n : ℕ) (l : LaneState) (view : SessionView) → IsAtRest w n l → next_at (at_lane w.waiting n) ≡ Try view → HasTried w n view
 has_tried w n l view h e =
     let s : ℕ = view.session in
     let f : IsFirst (at_lane w.waiting n) view = is_first (at_lane w.waiting n) view e in
@@ -146,10 +146,10 @@ has_tended w n l task h e =
     }
 
 -- ---- the lane that was asked
-asking : (m : Machine) (n : ℕ) (l : LaneState) (view : SessionView) (call : Call) → m.lanes n ≡ Some l → happens m (Asks n view call) ≡ with_lane m n (Some (begun l view call))
+pub asking : (m : Machine) (n : ℕ) (l : LaneState) (view : SessionView) (call : Call) → m.lanes n ≡ Some l → happens m (Asks n view call) ≡ with_lane m n (Some (begun l view call))
 asking m n l view call is = ap (λ o. of_lane m o (λ y. with_lane m n (Some (begun y view call)))) is
 
-tending : (m : Machine) (n : ℕ) (l : LaneState) (task : Task) → m.lanes n ≡ Some l → happens m (Tends n task) ≡ with_lane m n (Some (begun_task l task))
+pub tending : (m : Machine) (n : ℕ) (l : LaneState) (task : Task) → m.lanes n ≡ Some l → happens m (Tends n task) ≡ with_lane m n (Some (begun_task l task))
 tending m n l task is = ap (λ o. of_lane m o (λ y. with_lane m n (Some (begun_task y task)))) is
 
 begun_world : (w : World) (n : ℕ) (l x : LaneState) (v : WaitingState) (b : Option SessionView) → IsAtRest w n l → HasTaken w n v b → IsSound w.segments (with_lane w.machine n (Some x))
@@ -163,7 +163,7 @@ begun_world w n l x v b h t machine call plan same = record {
   live = h.world.live;
 }
 
-asks_kept : (w : World) (n : ℕ) (l : LaneState) (view : SessionView) → IsAtRest w n l → next_at (at_lane w.waiting n) ≡ Try view
+pub asks_kept : (w : World) (n : ℕ) (l : LaneState) (view : SessionView) → IsAtRest w n l → next_at (at_lane w.waiting n) ≡ Try view
     → IsWorld (with_event (takes_up w n) (Asks n view (called (call_of w.waiting view.session))))
 asks_kept w n l view h e =
     let call : Call = called (call_of w.waiting view.session) in
@@ -174,7 +174,7 @@ asks_kept w n l view h e =
     subst (λ (x : Machine). IsWorld (record w { waiting = taken_up w.waiting n; machine = x })) (sym is)
     (begun_world w n l (begun l view call) (taken_up w.waiting n) (Some view) h t.taken machine t.same refl refl)
 
-tends_kept : (w : World) (n : ℕ) (l : LaneState) (task : Task) → IsAtRest w n l → next_at (at_lane w.waiting n) ≡ Tend task → IsWorld (with_event (takes_up w n) (Tends n task))
+pub tends_kept : (w : World) (n : ℕ) (l : LaneState) (task : Task) → IsAtRest w n l → next_at (at_lane w.waiting n) ≡ Tend task → IsWorld (with_event (takes_up w n) (Tends n task))
 tends_kept w n l task h e =
     let is : happens w.machine (Tends n task) ≡ with_lane w.machine n (Some (begun_task l task)) = tending w.machine n l task h.is in
     let machine : IsSound w.segments (with_lane w.machine n (Some (begun_task l task))) =
