@@ -75,7 +75,7 @@ queues_kept w n task None h lane own = h
 queues_kept w n task (Some l) h lane own = tasked_kept w n task h lane own
 
 -- ---- a staged word flows
-flows_is : (m : Machine) (n index : ℕ) (l : LaneState) (action : Action) → m.lanes n ≡ Some l → flow_of l.base.staging index ≡ Some action
+pub flows_is : (m : Machine) (n index : ℕ) (l : LaneState) (action : Action) → m.lanes n ≡ Some l → flow_of l.base.staging index ≡ Some action
     → happens m (Flows n index) ≡ with_lane (acted m action) n (Some (flowed_of l index))
 flows_is m n index l action is e = ap (λ o. of_lane m o (λ y. lane_flows m n y index (flow_of y.base.staging index))) is ∙ ap (λ o. lane_flows m n l index o) e
 

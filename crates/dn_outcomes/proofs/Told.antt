@@ -44,7 +44,7 @@ alike_same (Some c) = (refl, refl)
 pub alike_is : (o p : Option OpenCall) → p ≡ o → Alike o p
 alike_is o p e = subst (Alike o) (sym e) (alike_same o)
 
-alike_goes : (o p : Option OpenCall) → Alike o p → GoesOn false o p
+pub alike_goes : (o p : Option OpenCall) → Alike o p → GoesOn false o p
 alike_goes None p h = tt
 alike_goes (Some c) p h = h
 

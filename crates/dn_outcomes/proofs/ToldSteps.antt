@@ -53,7 +53,7 @@ use Rattle.dn_outcomes.proofs.Waits.{Changed, taken_changed, tended_changed}
 pub told_nothing : (w : World) → IsTold w (done w Nothing)
 told_nothing w = (let h : IsCalm w w = calm_same w w refl refl in record { receipts = refl; calls = calm_goes w w h; names = tt })
 
-told_acted : (w v : World) → IsCalm w v → IsTold w (done v Acted)
+pub told_acted : (w v : World) → IsCalm w v → IsTold w (done v Acted)
 told_acted w v h = record { receipts = h.quiet; calls = calm_goes w v h; names = tt }
 
 -- ---- a call ends

@@ -9,10 +9,12 @@ ghost use Rattle.dn_route.specs.CallersOrder.{KeepsCallersOrder};
 ghost use Rattle.dn_machine.specs.Histories.{IsHistory};
 ghost use Rattle.dn_machine.specs.Sound.{IsSound};
 ghost use Rattle.dn_machine.specs.State.{resting};
+ghost use Rattle.dn_waiting.specs.State.{call_of};
 ghost use Rattle.dn_outcomes.specs.Does.{does};
 ghost use Rattle.dn_outcomes.specs.Runs.{after, IsRun};
 ghost use Rattle.dn_outcomes.specs.Sound.{IsWorld, MayHappen};
 ghost use Rattle.dn_outcomes.specs.State.{World, opened};
+ghost use Rattle.dn_outcomes.specs.Told.{Stands, is_end, GoesOn, Names};
 ghost use Rattle.dn_outcomes.specs.declared.events.Event.{Event};
 
 /// A world is sound at first, over words that an opening leaves; and every event that may be given keeps it so. So it is
@@ -38,4 +40,17 @@ pub fn histories()
         → HoldsMap w.machine.words (map_left hs) }
     ensures alone { (w : World) (hs : List Receipt) (map : Bytes) → IsWorld w
         → IsHistory w.machine hs → HoldsMap w.machine.words map → map ≡ map_left hs }
+{}
+
+/// A call that is told as made has its receipt, which comes to stand by that event and no other: it is answered, of the
+/// session and number that are told, and of the call that the session has. A session's call stays the same until an
+/// outcome tells that it was made or is given up, and is gone then. A number that is told is the call's.
+pub fn outcomes()
+    ensures receipts { (w : World) (e : Event) (heirs : List ℕ) → IsWorld w → MayHappen w e heirs
+        → Stands w (does w e heirs).world (does w e heirs).outcome }
+    ensures calls { (w : World) (e : Event) (heirs : List ℕ) (s : ℕ) → IsWorld w
+        → MayHappen w e heirs → GoesOn (is_end (does w e heirs).outcome s) (call_of w.waiting s)
+        (call_of (does w e heirs).world.waiting s) }
+    ensures numbers { (w : World) (e : Event) (heirs : List ℕ) → IsWorld w → MayHappen w e heirs
+        → Names w.waiting (does w e heirs).outcome }
 {}
