@@ -48,7 +48,7 @@ pub alike_goes : (o p : Option OpenCall) → Alike o p → GoesOn false o p
 alike_goes None p h = tt
 alike_goes (Some c) p h = h
 
-alike_called : (o p : Option OpenCall) → Alike o p → called p ≡ called o
+pub alike_called : (o p : Option OpenCall) → Alike o p → called p ≡ called o
 alike_called None p h = ap called h
 alike_called (Some c) None h = absurd h
 alike_called (Some c) (Some x) h = h.1

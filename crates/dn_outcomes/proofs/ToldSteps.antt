@@ -129,7 +129,7 @@ alike_changed w v s l o q ch h k = elim (cases_eq k s) [
   | inr d ↦ alike_is (call_of w k) (call_of v k) (ch.calls k d)
 ]
 
-taken_calm : (w : World) (n : ℕ) (l : LaneState) (view : SessionView) → IsAtRest w n l → next_at (at_lane w.waiting n) ≡ Try view → IsCalm w (takes_up w n)
+pub taken_calm : (w : World) (n : ℕ) (l : LaneState) (view : SessionView) → IsAtRest w n l → next_at (at_lane w.waiting n) ≡ Try view → IsCalm w (takes_up w n)
 taken_calm w n l view h e =
     let s : ℕ = view.session in
     let f : IsFirst (at_lane w.waiting n) view = is_first (at_lane w.waiting n) view e in
@@ -139,7 +139,7 @@ taken_calm w n l view h e =
     let ch : Changed w.waiting (taken_up w.waiting n) s n o q = taken_changed w.waiting n view f e (omega (arith, h.world.waiting.sessions, t.session.most)) (omega (arith, h.world.waiting.made, h.lane.below)) in
     record { quiet = refl; calls = alike_changed w.waiting (taken_up w.waiting n) s n o q ch (alike_placed (call_of w.waiting s) (Begun n)) }
 
-tended_calm : (w : World) (n : ℕ) (l : LaneState) (task : Task) → IsAtRest w n l → next_at (at_lane w.waiting n) ≡ Tend task → IsCalm w (takes_up w n)
+pub tended_calm : (w : World) (n : ℕ) (l : LaneState) (task : Task) → IsAtRest w n l → next_at (at_lane w.waiting n) ≡ Tend task → IsCalm w (takes_up w n)
 tended_calm w n l task h e =
     let f : IsFirstTask (at_lane w.waiting n) task = is_first_task (at_lane w.waiting n) task e in
     let q : AtLane = record (at_lane w.waiting n) { tasks = f.rest } in

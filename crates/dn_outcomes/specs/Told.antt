@@ -1,8 +1,11 @@
 use Rattle.std.specs.Prelude.{◌≡◌, ◌==◌, ◌&&◌, ◌||◌, ◌++◌, ◌∷◌, [], ℕ, Bool, true, false, Option, Some, None}
+use Rattle.dn_act.specs.Words.{word_at}
 use Rattle.dn_hist.specs.declared.receipts.Receipt.{Receipt}
+use Rattle.dn_model.specs.Regions.{deed_at}
+use Rattle.dn_plan.specs.Plan.{is_owner}
 use Rattle.dn_waiting.specs.State.{WaitingState, call_of}
 use Rattle.dn_waiting.specs.declared.calls.OpenCall.{OpenCall}
-use Rattle.dn_outcomes.specs.Going.{called}
+use Rattle.dn_outcomes.specs.Going.{called, slot_at}
 use Rattle.dn_outcomes.specs.State.{World}
 use Rattle.dn_outcomes.specs.declared.outcomes.CallAnswer.{CallAnswer}
 use Rattle.dn_outcomes.specs.declared.outcomes.CallAnswer.TheVariants as answer
@@ -46,6 +49,11 @@ Stands w now outcome.LanesFull = IsQuiet w now
 Stands w now outcome.NoLane = IsQuiet w now
 Stands w now (outcome.Merged turn) = IsQuiet w now
 Stands w now (outcome.Fault actor) = IsQuiet w now
+
+-- ---- what lane n has looked at for the call of session s, which doesn't show it as owner: the deed of its slot
+pub record IsNoOwner (w : World) (n s look : ℕ) : Type 0 where
+  pub found : look ≡ word_at w.machine.words (deed_at (slot_at (call_of w.waiting s)))
+  pub other : is_owner n look ≡ false
 
 -- ---- the call of session s ends by this outcome
 abbrev pub is_made_by : CallAnswer → Bool

@@ -1,6 +1,6 @@
 //! What is so of worlds, as functions without work: what each says is its contract.
 
-ghost use Rattle.std.specs.Prelude.{◌≡◌, ℕ, List};
+ghost use Rattle.std.specs.Prelude.{◌≡◌, ℕ, Bool, List, Option};
 ghost use Rattle.dn_hist.specs.Calls.{Bytes};
 ghost use Rattle.dn_hist.specs.Replay.{IsLegal, map_left};
 ghost use Rattle.dn_hist.specs.declared.receipts.Receipt.{Receipt};
@@ -14,7 +14,10 @@ ghost use Rattle.dn_outcomes.specs.Does.{does};
 ghost use Rattle.dn_outcomes.specs.Runs.{after, IsRun};
 ghost use Rattle.dn_outcomes.specs.Sound.{IsWorld, MayHappen};
 ghost use Rattle.dn_outcomes.specs.State.{World, opened};
-ghost use Rattle.dn_outcomes.specs.Told.{Stands, is_end, GoesOn, Names};
+ghost use Rattle.dn_outcomes.specs.Told.{Stands, is_end, GoesOn, Names, IsNoOwner};
+ghost use Rattle.dn_outcomes.specs.declared.outcomes.CallAnswer.TheVariants.{NotOwner};
+ghost use Rattle.dn_outcomes.specs.declared.outcomes.Outcome.TheVariants.{Answered};
+ghost use Rattle.dn_outcomes.specs.declared.events.Event.TheVariants as event;
 ghost use Rattle.dn_outcomes.specs.declared.events.Event.{Event};
 
 /// A world is sound at first, over words that an opening leaves; and every event that may be given keeps it so. So it is
@@ -53,4 +56,12 @@ pub fn outcomes()
         (call_of (does w e heirs).world.waiting s) }
     ensures numbers { (w : World) (e : Event) (heirs : List ℕ) → IsWorld w → MayHappen w e heirs
         → Names w.waiting (does w e heirs).outcome }
+{}
+
+/// A lane refuses a call as not its owner's by its own look: by the word of the deed of the call's slot, which doesn't show
+/// the lane as owner.
+pub fn owners()
+    ensures { (w : World) (n : ℕ) (heirs : List ℕ) (s number look : ℕ) (cell : Option ℕ)
+        (given : Bool) → IsWorld w → (does w (event.Step n) heirs).outcome
+        ≡ Answered s number (NotOwner look cell) given → IsNoOwner w n s look }
 {}
