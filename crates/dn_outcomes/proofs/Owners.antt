@@ -11,7 +11,6 @@ use Rattle.dn_model.specs.Regions.{IsLane, deed_at, slot_of}
 use Rattle.dn_plan.specs.Plan.{is_owner}
 use Rattle.dn_plan.specs.declared.results.Ending.{Ending}
 use Rattle.dn_plan.specs.declared.results.Ending.TheVariants as ending
-use Rattle.dn_ask.specs.declared.asks.End.{End as EndOf}
 use Rattle.dn_ask.specs.declared.asks.End.TheVariants as end
 use Rattle.dn_tend.specs.declared.tasks.Task.{Task}
 use Rattle.dn_lane2.specs.Asked.{call_in}
@@ -36,7 +35,7 @@ use Rattle.dn_waiting.specs.declared.calls.Next.TheVariants.{Rest, Tend, Try}
 use Rattle.dn_outcomes.specs.Does.{does}
 use Rattle.dn_outcomes.specs.Going.{called, slot_at, told_of, ends_of, ends}
 use Rattle.dn_outcomes.specs.Sound.{view_by, is_calling, IsPlanOf, IsAskedBy, IsWorld}
-use Rattle.dn_outcomes.specs.State.{World, Done, done, with_event, is_made}
+use Rattle.dn_outcomes.specs.State.{World, done, with_event, is_made}
 use Rattle.dn_outcomes.specs.Steps.{by_turn, acts_by, acts_of, acts, takes_up, tends, tries, begins, steps_by, steps_of, step}
 use Rattle.dn_outcomes.specs.Told.{IsNoOwner}
 use Rattle.dn_outcomes.specs.declared.events.Event.TheVariants as event
@@ -197,8 +196,8 @@ step_look w n s look h lane told = by_lane (w.machine.lanes n) refl told where
   by_lane None is (number, cell, given, x) = absurd (cc x)
   by_lane (Some l) is t = by_work l (is_working l.mode) is refl t
 
-pub look : (w : World) (n : ℕ) (heirs : List ℕ) (s number look : ℕ) (cell : Option ℕ) (given : Bool) → IsWorld w → (does w (event.Step n) heirs).outcome ≡ Answered s number (answer.NotOwner look cell) given → IsNoOwner w n s look
-look w n heirs s number look cell given h e = by_made (is_made w n) refl e where
+pub looked : (w : World) (n : ℕ) (heirs : List ℕ) (s number look : ℕ) (cell : Option ℕ) (given : Bool) → IsWorld w → (does w (event.Step n) heirs).outcome ≡ Answered s number (answer.NotOwner look cell) given → IsNoOwner w n s look
+looked w n heirs s number look cell given h e = by_made (is_made w n) refl e where
   by_made : (b : Bool) → is_made w n ≡ b → (if b then step w n else done w NoLane).outcome ≡ Answered s number (answer.NotOwner look cell) given → IsNoOwner w n s look
   by_made true is x = step_look w n s look h (made_lane w n h is) (number, cell, given, x)
   by_made false is x = absurd (cc x)
