@@ -1,6 +1,6 @@
 //! What is so of worlds, as functions without work: what each says is its contract.
 
-ghost use Rattle.std.specs.Prelude.{◌≡◌, ℕ, Bool, List, Option};
+ghost use Rattle.std.specs.Prelude.{◌≡◌, ◌++◌, ℕ, Bool, List, Option};
 ghost use Rattle.dn_hist.specs.Calls.{Bytes};
 ghost use Rattle.dn_hist.specs.Replay.{IsLegal, map_left};
 ghost use Rattle.dn_hist.specs.declared.receipts.Receipt.{Receipt};
@@ -11,7 +11,7 @@ ghost use Rattle.dn_machine.specs.Sound.{IsSound};
 ghost use Rattle.dn_machine.specs.State.{resting};
 ghost use Rattle.dn_waiting.specs.State.{call_of};
 ghost use Rattle.dn_outcomes.specs.Does.{does};
-ghost use Rattle.dn_outcomes.specs.Runs.{after, IsRun};
+ghost use Rattle.dn_outcomes.specs.Runs.{after, IsRun, told_in, calls_of};
 ghost use Rattle.dn_outcomes.specs.Sound.{IsWorld, MayHappen};
 ghost use Rattle.dn_outcomes.specs.State.{World, opened};
 ghost use Rattle.dn_outcomes.specs.Told.{Stands, is_end, GoesOn, Names, IsNoOwner};
@@ -47,7 +47,8 @@ pub fn histories()
 
 /// A call that is told as made has its receipt, which comes to stand by that event and no other: it is answered, of the
 /// session and number that are told, and of the call that the session has. A session's call stays the same until an
-/// outcome tells that it was made or is given up, and is gone then. A number that is told is the call's.
+/// outcome tells that it was made or is given up, and is gone then. A number that is told is the call's. So over a run the
+/// receipts that come to stand are those that are told, in the same order.
 pub fn outcomes()
     ensures receipts { (w : World) (e : Event) (heirs : List ℕ) → IsWorld w → MayHappen w e heirs
         → Stands w (does w e heirs).world (does w e heirs).outcome }
@@ -56,6 +57,9 @@ pub fn outcomes()
         (call_of (does w e heirs).world.waiting s) }
     ensures numbers { (w : World) (e : Event) (heirs : List ℕ) → IsWorld w → MayHappen w e heirs
         → Names w.waiting (does w e heirs).outcome }
+    ensures runs { (w : World) (es : List (Event × List ℕ)) → IsWorld w → IsRun w es
+        → calls_of (after w es).machine.callers.receipts
+        ≡ calls_of w.machine.callers.receipts ++ told_in w es }
 {}
 
 /// A lane refuses a call as not its owner's by its own look: by the word of the deed of the call's slot, which doesn't show

@@ -1,3 +1,4 @@
+use Rattle.dn_outcomes.proofs.RunLaws.{told_calls}
 use Rattle.dn_outcomes.proofs.ToldEvents.{tells_so}
 use Rattle.dn_outcomes.proofs.laws.outcomes.Goals as goal
 
@@ -9,3 +10,6 @@ returns-clause-calls c = λ w e heirs s h may. (tells_so w e heirs h may).calls 
 
 pub returns-clause-numbers : goal.returns-clause-numbers
 returns-clause-numbers c = λ w e heirs h may. (tells_so w e heirs h may).names
+
+pub returns-clause-runs : goal.returns-clause-runs
+returns-clause-runs c = told_calls
