@@ -7,3 +7,4 @@ pub mod Does
 pub mod Sound
 pub mod Runs
 pub mod Told
+pub mod Effects
