@@ -11,6 +11,7 @@ ghost use Rattle.dn_machine.specs.Sound.{IsSound};
 ghost use Rattle.dn_machine.specs.State.{resting};
 ghost use Rattle.dn_waiting.specs.State.{call_of};
 ghost use Rattle.dn_outcomes.specs.Does.{does};
+ghost use Rattle.dn_outcomes.specs.Effects.{Effect};
 ghost use Rattle.dn_outcomes.specs.Runs.{after, IsRun, told_in, calls_of};
 ghost use Rattle.dn_outcomes.specs.Sound.{IsWorld, MayHappen};
 ghost use Rattle.dn_outcomes.specs.State.{World, opened};
@@ -60,6 +61,14 @@ pub fn outcomes()
     ensures runs { (w : World) (es : List (Event × List ℕ)) → IsWorld w → IsRun w es
         → calls_of (after w es).machine.callers.receipts
         ≡ calls_of w.machine.callers.receipts ++ told_in w es }
+{}
+
+/// A call is made at the event that tells it as made: it is answered what the plain map answers that the words hold before,
+/// and leaves what the plain map leaves. Any other event leaves the map that the words hold.
+pub fn effects()
+    ensures { (w : World) (e : Event) (heirs : List ℕ) (held : Bytes) → IsWorld w
+        → HoldsMap w.machine.words held → Effect w.machine.callers.receipts
+        (does w e heirs).world held (does w e heirs).outcome }
 {}
 
 /// A lane refuses a call as not its owner's by its own look: by the word of the deed of the call's slot, which doesn't show
