@@ -110,7 +110,7 @@ try_hint w n view h lane e = (may_begin w n view h lane e).hint
 pub try_stamp : (w : World) (n : ℕ) (view : SessionView) → IsWorld w → IsLane n → next_at (at_lane w.waiting n) ≡ Try view → view.last.stamp < 2 ^ 31
 try_stamp w n view h lane e = (may_begin w n view h lane e).stamp
 
-shown_call : (view : SessionView) (o : Option OpenCall) → Shows view o → (c : OpenCall) × (o ≡ Some c)
+pub shown_call : (view : SessionView) (o : Option OpenCall) → Shows view o → (c : OpenCall) × (o ≡ Some c)
 shown_call view None h = absurd h
 shown_call view (Some c) h = (c, refl)
 
@@ -132,12 +132,12 @@ pub try_key : (w : World) (n : ℕ) (view : SessionView) → IsWorld w → IsLan
 try_key w n view h lane e = call_key (called (call_of w.waiting view.session)) (try_fits w n view h lane e)
 
 -- no lane has a call of its session
-record HasView (s : ℕ) (a : Asked) : Type 0 where
+pub record HasView (s : ℕ) (a : Asked) : Type 0 where
   pub view : SessionView
   pub is : view_by a ≡ Some view
   pub session : view.session ≡ s
 
-has_view : (s : ℕ) (a : Asked) → IsOfSession s a → HasView s a
+pub has_view : (s : ℕ) (a : Asked) → IsOfSession s a → HasView s a
 has_view s asked.Nothing h = absurd h
 has_view s (asked.Call call view room) h = record { view = view; is = refl; session = h }
 has_view s asked.Task h = absurd h

@@ -5,3 +5,6 @@ pub mod Steps
 pub mod Orders
 pub mod Does
 pub mod Sound
+pub mod Runs
+pub mod Told
+pub mod Effects

@@ -1,8 +1,8 @@
-use Rattle.std.specs.Prelude.{ℕ, Bool, true, List, Option, Some, None, nat_lt, nat_le, ◌&&◌, ◌==◌, if◌then◌else◌}
+use Rattle.std.specs.Prelude.{ℕ, Bool, true, List, [], Option, Some, None, nat_lt, nat_le, ◌&&◌, ◌==◌, if◌then◌else◌}
 use Rattle.std.specs.List.{list_any}
-use Rattle.dn_machine.specs.State.{Machine}
+use Rattle.dn_machine.specs.State.{Machine, resting}
 use Rattle.dn_machine.specs.Events.{Event, happens}
-use Rattle.dn_waiting.specs.State.{WaitingState}
+use Rattle.dn_waiting.specs.State.{WaitingState, nothing_waits}
 use Rattle.dn_outcomes.specs.declared.outcomes.Outcome.{Outcome}
 use Rattle.dn_outcomes.specs.declared.outcomes.Outcome.TheVariants.{NoLane}
 
@@ -14,6 +14,10 @@ pub record World : Type 0 where
   pub machine : Machine
   pub waiting : WaitingState
   pub live : List ℕ
+
+-- over these words no lane was made, nothing waits, and nobody acts
+abbrev pub opened : ℕ → List ℕ → World
+opened segments words = record { segments = segments; made = 0; machine = resting words; waiting = nothing_waits; live = [] }
 
 -- what an event leaves, and its outcome
 pub record Done : Type 0 where

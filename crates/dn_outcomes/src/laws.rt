@@ -1,1 +1,80 @@
 //! What is so of worlds, as functions without work: what each says is its contract.
+
+ghost use Rattle.std.specs.Prelude.{◌≡◌, ◌++◌, ℕ, Bool, List, Option};
+ghost use Rattle.dn_hist.specs.Calls.{Bytes};
+ghost use Rattle.dn_hist.specs.Replay.{IsLegal, map_left};
+ghost use Rattle.dn_hist.specs.declared.receipts.Receipt.{Receipt};
+ghost use Rattle.dn_model.specs.PoolMap.{HoldsMap};
+ghost use Rattle.dn_route.specs.CallersOrder.{KeepsCallersOrder};
+ghost use Rattle.dn_machine.specs.Histories.{IsHistory};
+ghost use Rattle.dn_machine.specs.Sound.{IsSound};
+ghost use Rattle.dn_machine.specs.State.{resting};
+ghost use Rattle.dn_waiting.specs.State.{call_of};
+ghost use Rattle.dn_outcomes.specs.Does.{does};
+ghost use Rattle.dn_outcomes.specs.Effects.{Effect};
+ghost use Rattle.dn_outcomes.specs.Runs.{after, IsRun, told_in, calls_of};
+ghost use Rattle.dn_outcomes.specs.Sound.{IsWorld, MayHappen};
+ghost use Rattle.dn_outcomes.specs.State.{World, opened};
+ghost use Rattle.dn_outcomes.specs.Told.{Stands, is_end, GoesOn, Names, IsNoOwner};
+ghost use Rattle.dn_outcomes.specs.declared.outcomes.CallAnswer.TheVariants.{NotOwner};
+ghost use Rattle.dn_outcomes.specs.declared.outcomes.Outcome.TheVariants.{Answered};
+ghost use Rattle.dn_outcomes.specs.declared.events.Event.TheVariants as event;
+ghost use Rattle.dn_outcomes.specs.declared.events.Event.{Event};
+
+/// A world is sound at first, over words that an opening leaves; and every event that may be given keeps it so. So it is
+/// sound from the beginning of a run to its end.
+pub fn worlds()
+    ensures opening { (segments : ℕ) (words : List ℕ) → IsSound segments (resting words)
+        → IsWorld (opened segments words) }
+    ensures kept { (w : World) (e : Event) (heirs : List ℕ) → IsWorld w → MayHappen w e heirs
+        → IsWorld (does w e heirs).world }
+    ensures runs { (w : World) (es : List (Event × List ℕ)) → IsWorld w → IsRun w es
+        → IsWorld (after w es) }
+{}
+
+/// Whatever has happened in a world, the receipts that stand, in order of position, are a history in which each session's
+/// calls stand in the order in which it made them, behind all that it knew: a plain map that starts empty gives each call
+/// the reply of its receipt, and in the end it is what the words hold, which hold no other map.
+pub fn histories()
+    ensures legal { (w : World) (hs : List Receipt) → IsWorld w → IsHistory w.machine hs
+        → IsLegal hs }
+    ensures order { (w : World) (hs : List Receipt) → IsWorld w → IsHistory w.machine hs
+        → KeepsCallersOrder w.machine.callers.told hs }
+    ensures map { (w : World) (hs : List Receipt) → IsWorld w → IsHistory w.machine hs
+        → HoldsMap w.machine.words (map_left hs) }
+    ensures alone { (w : World) (hs : List Receipt) (map : Bytes) → IsWorld w
+        → IsHistory w.machine hs → HoldsMap w.machine.words map → map ≡ map_left hs }
+{}
+
+/// A call that is told as made has its receipt, which comes to stand by that event and no other: it is answered, of the
+/// session and number that are told, and of the call that the session has. A session's call stays the same until an
+/// outcome tells that it was made or is given up, and is gone then. A number that is told is the call's. So over a run the
+/// receipts that come to stand are those that are told, in the same order.
+pub fn outcomes()
+    ensures receipts { (w : World) (e : Event) (heirs : List ℕ) → IsWorld w → MayHappen w e heirs
+        → Stands w (does w e heirs).world (does w e heirs).outcome }
+    ensures calls { (w : World) (e : Event) (heirs : List ℕ) (s : ℕ) → IsWorld w
+        → MayHappen w e heirs → GoesOn (is_end (does w e heirs).outcome s) (call_of w.waiting s)
+        (call_of (does w e heirs).world.waiting s) }
+    ensures numbers { (w : World) (e : Event) (heirs : List ℕ) → IsWorld w → MayHappen w e heirs
+        → Names w.waiting (does w e heirs).outcome }
+    ensures runs { (w : World) (es : List (Event × List ℕ)) → IsWorld w → IsRun w es
+        → calls_of (after w es).machine.callers.receipts
+        ≡ calls_of w.machine.callers.receipts ++ told_in w es }
+{}
+
+/// A call is made at the event that tells it as made: it is answered what the plain map answers that the words hold before,
+/// and leaves what the plain map leaves. Any other event leaves the map that the words hold.
+pub fn effects()
+    ensures { (w : World) (e : Event) (heirs : List ℕ) (held : Bytes) → IsWorld w
+        → HoldsMap w.machine.words held → Effect w.machine.callers.receipts
+        (does w e heirs).world held (does w e heirs).outcome }
+{}
+
+/// A lane refuses a call as not its owner's by its own look: by the word of the deed of the call's slot, which doesn't show
+/// the lane as owner.
+pub fn owners()
+    ensures { (w : World) (n : ℕ) (heirs : List ℕ) (s number look : ℕ) (cell : Option ℕ)
+        (given : Bool) → IsWorld w → (does w (event.Step n) heirs).outcome
+        ≡ Answered s number (NotOwner look cell) given → IsNoOwner w n s look }
+{}
