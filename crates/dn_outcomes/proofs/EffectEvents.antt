@@ -28,7 +28,8 @@ use Rattle.dn_waiting.specs.declared.calls.Course.{Course}
 use Rattle.dn_waiting.specs.declared.calls.Course.TheVariants as course
 use Rattle.dn_waiting.specs.declared.calls.OpenCall.{OpenCall}
 use Rattle.dn_outcomes.specs.Does.{queues, adds_lane, adds, tells_unless, tells, does}
-use Rattle.dn_outcomes.specs.Orders.{Leaving, leaves_by, release_at, release, told_by as monitor_told, orders_by, orders_of, monitor, may_order, gives_beside, give}
+use Rattle.dn_outcomes.specs.declared.leaving.Leaving.{Leaving}
+use Rattle.dn_outcomes.specs.Orders.{leaves_by, release_at, release, told_by as monitor_told, orders_by, orders_of, monitor, may_order, gives_beside, give}
 use Rattle.dn_outcomes.specs.Sound.{IsWorld}
 use Rattle.dn_outcomes.specs.Starts.{given_by, routes, start_unless, start_beside, start, refresh_of, refresh}
 use Rattle.dn_outcomes.specs.State.{World, Done, done, with_event, is_made, may_name, on_lane}

@@ -29,9 +29,10 @@ use Rattle.dn_waiting.specs.declared.calls.OpenCall.{OpenCall}
 use Rattle.dn_waiting.proofs.Changes.{tasked_sound}
 use Rattle.dn_outcomes.specs.State.{World, done, with_event, with_waiting, is_made, on_lane, Done}
 use Rattle.dn_outcomes.specs.Does.{queues, adds_lane, adds}
-use Rattle.dn_outcomes.specs.Orders.{Leaving, leaves_by, release_at, release, orders_by, orders_of, monitor, may_order, gives_beside, give}
+use Rattle.dn_outcomes.specs.declared.leaving.Leaving.{Leaving}
+use Rattle.dn_outcomes.specs.Orders.{leaves_by, release_at, release, orders_by, orders_of, monitor, may_order, gives_beside, give}
 use Rattle.dn_outcomes.specs.Steps.{flow_by, flow_at, flow, merges, merge}
-use Rattle.dn_outcomes.specs.Sound.{IsTake, view_at, AreMade, AreLive, IsWorld}
+use Rattle.dn_outcomes.specs.Sound.{IsTake, TakesSo, view_at, AreMade, AreLive, IsWorld}
 use Rattle.dn_outcomes.specs.declared.outcomes.Outcome.TheVariants.{NoLane, LanesFull}
 use Rattle.dn_outcomes.proofs.Facts.{made_lane}
 use Rattle.dn_outcomes.proofs.Goes.{others_of, calls_after, asked_after, asked_beside}
@@ -188,15 +189,15 @@ gives_so w o heirs h fits take none = record {
   live = h.live;
 }
 
-pub give_kept : (w : World) (o : Order) (heirs : List ℕ) → IsWorld w → IsOrder o → IsTake w.live o heirs → IsWorld (give w o heirs).world
-give_kept w o heirs h fits take = by_may (may_order w o) where
-  by_order : (x : Option Monitoring) → w.machine.monitor ≡ x → IsWorld (gives_beside w o heirs x).world
-  by_order None e = gives_so w o heirs h fits take e
-  by_order (Some x) e = h
+pub give_kept : (w : World) (o : Order) (heirs : List ℕ) → IsWorld w → IsOrder o → TakesSo w o heirs → IsWorld (give w o heirs).world
+give_kept w o heirs h fits take = by_may (may_order w o) refl where
+  by_order : may_order w o ≡ true → (x : Option Monitoring) → w.machine.monitor ≡ x → IsWorld (gives_beside w o heirs x).world
+  by_order may None e = gives_so w o heirs h fits (take may e) e
+  by_order may (Some x) e = h
 
-  by_may : (b : Bool) → IsWorld (if b then gives_beside w o heirs w.machine.monitor else done w NoLane).world
-  by_may true = by_order w.machine.monitor refl
-  by_may false = h
+  by_may : (b : Bool) → may_order w o ≡ b → IsWorld (if b then gives_beside w o heirs w.machine.monitor else done w NoLane).world
+  by_may true e = by_order e w.machine.monitor refl
+  by_may false e = h
 
 -- ---- a lane is added
 added_made : (made n : ℕ) (mergers : ℕ → Option Merging) (x : Merging) → AreMade made mergers → n ≡ made + 1 → n ≤ 63 → AreMade n (with_at mergers n (Some x))

@@ -34,7 +34,8 @@ use Rattle.dn_waiting.specs.declared.calls.Place.TheVariants.{Queued}
 use Rattle.dn_waiting.proofs.Counts.{own_test, other_test}
 use Rattle.dn_outcomes.specs.Does.{queues, adds_lane, adds, tells_unless, tells, does}
 use Rattle.dn_outcomes.specs.Going.{goes_on, is_given}
-use Rattle.dn_outcomes.specs.Orders.{Leaving, leaves_by, release_at, release, told_by as monitor_told, orders_by, orders_of, monitor, may_order, gives_beside, give}
+use Rattle.dn_outcomes.specs.declared.leaving.Leaving.{Leaving}
+use Rattle.dn_outcomes.specs.Orders.{leaves_by, release_at, release, told_by as monitor_told, orders_by, orders_of, monitor, may_order, gives_beside, give}
 use Rattle.dn_outcomes.specs.Sound.{MayHappen, IsWorld}
 use Rattle.dn_outcomes.specs.Starts.{session_at, route_in, given_by, routes, starts, start_unless, start_beside, start, refresh_of, refresh}
 use Rattle.dn_outcomes.specs.State.{World, Done, done, with_event, with_waiting, is_made, may_name, on_lane}

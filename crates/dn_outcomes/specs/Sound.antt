@@ -31,6 +31,7 @@ use Rattle.dn_waiting.specs.declared.calls.Place.{Place}
 use Rattle.dn_waiting.specs.declared.calls.Place.TheVariants.{Loading, Queued, Begun}
 use Rattle.dn_outcomes.specs.declared.events.Event.{Event}
 use Rattle.dn_outcomes.specs.declared.events.Event.TheVariants as event
+use Rattle.dn_outcomes.specs.Orders.{may_order}
 use Rattle.dn_outcomes.specs.State.{World}
 use Rattle.dn_outcomes.specs.Going.{called, slot_at}
 
@@ -137,6 +138,10 @@ IsTake live (order.Move slot to) heirs = Unit {0}
 IsTake live (order.Fence lane) heirs = Unit {0}
 IsTake live (order.Takeover lane) heirs = AreHeirs live heirs
 
+-- where the order isn't refused
+abbrev pub TakesSo : World → Order → List ℕ → Type 0
+TakesSo w o heirs = may_order w o ≡ true → w.machine.monitor ≡ None → IsTake w.live o heirs
+
 abbrev pub MayHappen : World → Event → List ℕ → Type 0
 MayHappen w (event.Start s lane call) heirs = IsSession s × IsCall call
 MayHappen w (event.Step n) heirs = Unit {0}
@@ -144,7 +149,7 @@ MayHappen w (event.Flow n index) heirs = Unit {0}
 MayHappen w (event.Merge n) heirs = Unit {0}
 MayHappen w event.Monitor heirs = Unit {0}
 MayHappen w (event.Refresh s) heirs = IsSession s
-MayHappen w (event.Give o) heirs = IsOrder o × IsTake w.live o heirs
+MayHappen w (event.Give o) heirs = IsOrder o × TakesSo w o heirs
 MayHappen w (event.Queue n t) heirs = IsOwnTask t
 MayHappen w event.Add heirs = Unit {0}
 MayHappen w (event.Tell s t) heirs = IsSession s × IsSession t

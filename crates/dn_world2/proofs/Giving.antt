@@ -23,7 +23,7 @@ use Rattle.dn_outcomes.specs.State.{World, Done, done, with_event, with_waiting}
 use Rattle.dn_outcomes.specs.declared.outcomes.Outcome.TheVariants.{Nothing, Acted, Added, LanesFull, MonitorBusy, NoLane}
 use Rattle.dn_world2.specs.Comes.{Moves, bare}
 use Rattle.dn_world2.specs.State.{CrewState, world_of}
-use Rattle.dn_world2.proofs.Worlds.{same_world, no_receipt, where_true, where_false}
+use Rattle.dn_world2.proofs.Changes.{same_world, no_receipt, where_true, where_false}
 
 -- The monitor is given an order, and a lane a task.
 

@@ -7,7 +7,7 @@ use Rattle.dn_outcomes.specs.State.{World, with_event}
 use Rattle.dn_outcomes.specs.Going.{goes_on, slot_at}
 use Rattle.dn_world2.specs.State.{CrewState, world_of}
 use Rattle.dn_world2.specs.Comes.{Turns}
-use Rattle.dn_world2.proofs.Worlds.{IsClustered, clustered}
+use Rattle.dn_world2.proofs.Changes.{IsClustered, clustered}
 
 -- A session's call goes on to a load of its slot's deed.
 pub goes : (x y : CrewState) (s slot : ℕ) (course : Course) → course ≡ Load → slot ≡ slot_at (call_of x.waiting s) → IsClustered x y (Loads s slot) → Turns x y (λ w. goes_on w s course)

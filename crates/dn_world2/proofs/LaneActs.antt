@@ -23,7 +23,7 @@ use Rattle.dn_world2.specs.Comes.{Moves, Carries, bare, joining}
 use Rattle.dn_world2.specs.State.{CrewState, world_of}
 use Rattle.dn_world2.specs.declared.crews.Came.{Came}
 use Rattle.dn_world2.proofs.Refreshing.{IsActed, acted_world}
-use Rattle.dn_world2.proofs.Worlds.{is_done}
+use Rattle.dn_world2.proofs.Changes.{is_done}
 
 -- A lane carries out its next action.
 

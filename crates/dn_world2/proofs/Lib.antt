@@ -1,4 +1,4 @@
-pub mod Worlds
+pub mod Changes
 pub mod Going
 pub mod Starting
 pub mod Routing

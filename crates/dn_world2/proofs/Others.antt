@@ -7,7 +7,7 @@ use Rattle.dn_merge.specs.declared.mergers.MergeTurn.TheVariants as merging
 use Rattle.dn_world2.specs.Comes.{Turns, Carries, bare, has_failed}
 use Rattle.dn_world2.specs.State.{CrewState, world_of}
 use Rattle.dn_world2.proofs.Refreshing.{IsActed, acted_world}
-use Rattle.dn_world2.proofs.Worlds.{is_done}
+use Rattle.dn_world2.proofs.Changes.{is_done}
 use Rattle.dn_cluster.specs.State.{ClusterState}
 use Rattle.dn_route.specs.CallersOrder.{Told}
 use Rattle.dn_callers.specs.Callers.{Standing}

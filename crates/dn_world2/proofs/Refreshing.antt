@@ -25,7 +25,7 @@ use Rattle.dn_outcomes.specs.declared.outcomes.Outcome.TheVariants.{Nothing}
 use Rattle.dn_outcomes.proofs.Facts.{loads_for}
 use Rattle.dn_world2.specs.State.{CrewState, world_of}
 use Rattle.dn_world2.specs.Comes.{Moves, Carries, bare, has_failed}
-use Rattle.dn_world2.proofs.Worlds.{same_world, is_done}
+use Rattle.dn_world2.proofs.Changes.{same_world, is_done}
 
 -- ---- an event of the cluster with an action, as one of the world
 pub record IsActed (words : List ℕ) (x : CrewState) (now : List ℕ) (y : CrewState) (joined : List Standing) (e : Event) : Type 0 where

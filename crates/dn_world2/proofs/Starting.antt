@@ -27,7 +27,7 @@ use Rattle.dn_outcomes.specs.State.{World, Done, done, with_event, may_name}
 use Rattle.dn_outcomes.specs.declared.outcomes.Outcome.TheVariants.{Numbered, Busy, Closed, NoLane}
 use Rattle.dn_world2.specs.State.{CrewState, world_of}
 use Rattle.dn_world2.specs.Comes.{Turns}
-use Rattle.dn_world2.proofs.Worlds.{where_true, where_false}
+use Rattle.dn_world2.proofs.Changes.{where_true, where_false}
 
 -- A session starts a call.
 

@@ -27,7 +27,7 @@ use Rattle.dn_world2.specs.Comes.{IsDone, Comes, CanBeWorld}
 use Rattle.dn_world2.specs.State.{CrewState, world_of}
 use Rattle.dn_world2.specs.Takes.{barred_by, tends_at, tries_at, IsSessionOf}
 use Rattle.dn_world2.specs.declared.crews.Came.{Came}
-use Rattle.dn_world2.proofs.Worlds.{is_done, where_true, where_false}
+use Rattle.dn_world2.proofs.Changes.{is_done, where_true, where_false}
 
 -- A lane makes its next action, or takes up what waits.
 

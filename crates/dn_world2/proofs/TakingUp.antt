@@ -45,7 +45,7 @@ use Rattle.dn_world2.specs.Comes.{IsDone, Moves, Carries, Comes, bare}
 use Rattle.dn_world2.specs.State.{CrewState, world_of}
 use Rattle.dn_world2.specs.declared.crews.Came.{Came}
 use Rattle.dn_world2.specs.Takes.{Takes, barred_by, tends_at, tries_at}
-use Rattle.dn_world2.proofs.Worlds.{is_done, no_receipt, clustered}
+use Rattle.dn_world2.proofs.Changes.{is_done, no_receipt, clustered}
 
 -- A lane with nothing under way takes up what is next.
 

@@ -3,3 +3,4 @@ pub mod Inside
 pub mod Comes
 pub mod Takes
 pub mod Gives
+pub mod Happens

@@ -21,3 +21,8 @@ world_of words x told receipts = record {
   waiting = x.waiting;
   live = x.live;
 }
+
+-- a crew, and the receipts that stand
+pub record WorldState : Type 0 where
+  pub crew : CrewState
+  pub history : List Standing

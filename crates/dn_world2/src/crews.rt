@@ -26,6 +26,7 @@ ghost use Rattle.dn_waiting.specs.State.{call_of, at_lane};
 ghost use Rattle.dn_world2.specs.State.{CrewState, world_of};
 ghost use Rattle.dn_world2.specs.Comes.{CanBeWorld, Can, Turns, Moves, Carries, Comes, bare, OnDone, CountsFault, has_failed};
 ghost use Rattle.dn_world2.specs.Gives.{IsGivenBy, next_by};
+ghost use Rattle.dn_world2.specs.Happens.{MayBeGivenTo, HappensTo};
 ghost use Rattle.dn_world2.specs.Takes.{Takes, tends_at, tries_at, IsSessionOf};
 
 use crate::leaving::{leaves_by, told_by};
@@ -36,7 +37,7 @@ use dn_hist::{Call, Receipt, SessionView};
 use dn_lane2::{Answer, Refuse, Turn};
 use dn_merge::MergeTurn;
 use dn_monitor::Order;
-use dn_outcomes::{CallAnswer, Leaving, Outcome};
+use dn_outcomes::{CallAnswer, Event, Leaving, Outcome};
 use dn_tend::{Task, TaskAnswer};
 use dn_waiting::{AttemptEnd, Course, Next, OpenCall, Waiting};
 use dn_word::{OutOfMemory, slot_of};
@@ -90,6 +91,36 @@ fn slot_at(waiting: &Waiting, session: u32) -> u8
 }
 
 impl Crew {
+    /// Does one event.
+    pub fn event<M: Memory>(&mut self, mem: &mut M, event: Event) -> Result<Came, OutOfMemory>
+        requires can { CanBeWorld (M.words mem.old) self.old }
+        requires event { MayBeGivenTo self.old event }
+        ensures comes { IfOk result (λ came. OnDone came.outcome (HappensTo (M.words mem.old) self.old
+            (M.words mem.new) self.new came event)) }
+        ensures count { IfOk result (λ came. CountsFault came.outcome (M.faults mem.old)
+            (M.faults mem.new)) }
+        ensures same { OnErr result (self.new ≡ self.old) }
+        ensures words { OnErr result (M.words mem.new ≡ M.words mem.old) }
+    {
+        let outcome = match event {
+            Event::Start {
+                session,
+                lane,
+                call,
+            } => self.start(session, lane, call),
+            Event::Step { lane } => return self.step(mem, lane),
+            Event::Flow { lane, index } => self.flow(mem, lane, index),
+            Event::Merge { lane } => self.merge(mem, lane),
+            Event::Monitor => self.monitor(mem),
+            Event::Refresh { session } => self.refresh(mem, session),
+            Event::Give { order } => self.give(order),
+            Event::Queue { lane, task } => self.queue(lane, task)?,
+            Event::Add => self.add()?,
+            Event::Tell { from, to } => self.tell(from, to),
+        };
+        Ok(bare(outcome))
+    }
+
     /// Whether a lane with this number was made.
     fn is_made(&self, lane: u8) -> bool
         ensures { (words : List ℕ) (told : List Told) (receipts : List Standing)

@@ -8,4 +8,6 @@
 mod crews;
 mod leaving;
 mod routes;
+mod worlds;
 
+pub use worlds::{Standing, World};

@@ -16,7 +16,7 @@ use Rattle.dn_world2.specs.State.{CrewState, world_of}
 use Rattle.dn_world2.specs.declared.crews.Came.{Came}
 use Rattle.dn_world2.proofs.LaneActs.{lane_turned, LaneRests, lane_rests}
 use Rattle.dn_world2.proofs.Refreshing.{not_failed, acts_rest}
-use Rattle.dn_world2.proofs.Worlds.{counts_done, counts_fault}
+use Rattle.dn_world2.proofs.Changes.{counts_done, counts_fault}
 use Rattle.dn_world2.proofs.crews.Crew.act.Goals as goal
 
 pub returns-in-Lane-clause-came : goal.returns-in-Lane-clause-came

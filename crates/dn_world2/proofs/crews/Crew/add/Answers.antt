@@ -9,7 +9,7 @@ use Rattle.dn_world2.specs.Comes.{Moves, bare}
 use Rattle.dn_world2.specs.Inside.{state_of}
 use Rattle.dn_world2.specs.State.{CrewState, world_of}
 use Rattle.dn_world2.proofs.Giving.{added, added_none}
-use Rattle.dn_world2.proofs.Worlds.{stays_so}
+use Rattle.dn_world2.proofs.Changes.{stays_so}
 use Rattle.dn_world2.proofs.crews.Crew.add.Goals as goal
 
 pub returns-in-Ok-clause-came : goal.returns-in-Ok-clause-came

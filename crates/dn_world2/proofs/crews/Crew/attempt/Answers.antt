@@ -19,7 +19,7 @@ use Rattle.dn_world2.specs.State.{CrewState, world_of}
 use Rattle.dn_world2.specs.Takes.{Takes, tries_at, IsSessionOf}
 use Rattle.dn_world2.specs.declared.crews.Came.{Came}
 use Rattle.dn_world2.proofs.TakingUp.{takes_begun, takes_room, MayTry, may_try, tries_sound, after_taking, tries_so, tries_barred, then_acts, taken_try, IsGivenTo}
-use Rattle.dn_world2.proofs.Worlds.{counts_done}
+use Rattle.dn_world2.proofs.Changes.{counts_done}
 use Rattle.dn_world2.proofs.crews.Crew.attempt.Goals as goal
 
 pub begin-requires-clause-runs : goal.begin-requires-clause-runs

@@ -16,7 +16,7 @@ use Rattle.dn_world2.specs.Gives.{IsGivenBy}
 use Rattle.dn_world2.specs.Inside.{state_of}
 use Rattle.dn_world2.specs.State.{CrewState, world_of}
 use Rattle.dn_world2.proofs.Giving.{may_not, busy, given, copied_order, some_now, is_take, live_lanes}
-use Rattle.dn_world2.proofs.Worlds.{stays_so, turns_so, clustered}
+use Rattle.dn_world2.proofs.Changes.{stays_so, turns_so, clustered}
 use Rattle.dn_world2.proofs.crews.Crew.give.Goals as goal
 
 pub returns-then-not-may_order-clause-came : goal.returns-then-not-may_order-clause-came

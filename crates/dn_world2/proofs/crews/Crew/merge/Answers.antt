@@ -21,7 +21,7 @@ use Rattle.dn_world2.specs.State.{CrewState, world_of}
 use Rattle.dn_world2.proofs.Stepping.{unmade, on_made}
 use Rattle.dn_world2.proofs.Others.{Flowed, flowed_as, FlowRests, flow_rests, merged_as, MergeRests, merge_rests, merged_fine}
 use Rattle.dn_world2.proofs.Refreshing.{not_failed, acts_done, acts_rest, no_fault}
-use Rattle.dn_world2.proofs.Worlds.{stays, counts_done, counts_fault}
+use Rattle.dn_world2.proofs.Changes.{stays, counts_done, counts_fault}
 use Rattle.dn_world2.proofs.crews.Crew.merge.Goals as goal
 use Rattle.dn_world2.proofs.crews.Crew.merge.Goals.{in-Merger, in-Fault, in_default}
 

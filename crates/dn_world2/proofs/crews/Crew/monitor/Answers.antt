@@ -17,7 +17,7 @@ use Rattle.dn_world2.specs.Inside.{state_of}
 use Rattle.dn_world2.specs.State.{CrewState, world_of}
 use Rattle.dn_world2.proofs.Others.{monitor_done, MonitorRests, monitor_rests, ordered_fine}
 use Rattle.dn_world2.proofs.Refreshing.{not_failed, acts_rest, no_fault, carries_as}
-use Rattle.dn_world2.proofs.Worlds.{counts_done, counts_fault}
+use Rattle.dn_world2.proofs.Changes.{counts_done, counts_fault}
 use Rattle.dn_world2.proofs.crews.Crew.monitor.Goals as goal
 use Rattle.dn_world2.proofs.crews.Crew.monitor.Goals.{in-Monitor, in-Fault, in_default}
 

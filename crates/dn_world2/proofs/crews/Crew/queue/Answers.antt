@@ -12,7 +12,7 @@ use Rattle.dn_world2.specs.Inside.{state_of}
 use Rattle.dn_world2.specs.State.{CrewState, world_of}
 use Rattle.dn_world2.proofs.Giving.{queued_stopped, queued_runs}
 use Rattle.dn_world2.proofs.Stepping.{unmade, on_made, made_of, some_of, not_both}
-use Rattle.dn_world2.proofs.Worlds.{stays_so, no_receipt}
+use Rattle.dn_world2.proofs.Changes.{stays_so, no_receipt}
 use Rattle.dn_world2.proofs.crews.Crew.queue.Goals as goal
 
 pub returns-then-not-is_made-clause-came : goal.returns-then-not-is_made-clause-came

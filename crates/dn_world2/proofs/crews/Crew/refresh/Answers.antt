@@ -14,7 +14,7 @@ use Rattle.dn_outcomes.proofs.Facts.{loading}
 use Rattle.dn_world2.specs.State.{CrewState, world_of}
 use Rattle.dn_world2.specs.Inside.{state_of}
 use Rattle.dn_world2.specs.Comes.{CanBeWorld, has_failed}
-use Rattle.dn_world2.proofs.Worlds.{counts_done, counts_fault}
+use Rattle.dn_world2.proofs.Changes.{counts_done, counts_fault}
 use Rattle.dn_world2.proofs.Refreshing.{number_stays, shows_so, session_answered, not_failed, refresh_routed, acts_rest, carries_as, no_fault, refreshed_none, session_rests, loads_none}
 use Rattle.dn_world2.proofs.crews.Crew.refresh.Goals as goal
 use Rattle.dn_world2.proofs.crews.Crew.refresh.Goals.{in-Session, in-Fault, in_default}

@@ -15,7 +15,7 @@ use Rattle.dn_outcomes.specs.declared.outcomes.Outcome.{Outcome}
 use Rattle.dn_outcomes.specs.declared.outcomes.Outcome.TheVariants.{Acted, GivenUp}
 use Rattle.dn_world2.specs.State.{CrewState, world_of}
 use Rattle.dn_world2.specs.Comes.{Turns, Moves, bare}
-use Rattle.dn_world2.proofs.Worlds.{no_receipt}
+use Rattle.dn_world2.proofs.Changes.{no_receipt}
 use Rattle.dn_world2.specs.Inside.{state_of}
 use Rattle.dn_world2.proofs.Routing.{IsRouting, routing, copied_some, goes_on_so}
 use Rattle.dn_world2.proofs.crews.Crew.routed.Goals as goal

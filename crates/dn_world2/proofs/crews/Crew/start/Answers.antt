@@ -15,7 +15,7 @@ use Rattle.dn_outcomes.specs.declared.outcomes.Outcome.TheVariants.{Numbered, Bu
 use Rattle.dn_world2.specs.State.{CrewState, world_of}
 use Rattle.dn_world2.specs.Inside.{state_of}
 use Rattle.dn_world2.specs.Comes.{Turns, CanBeWorld, Carries, bare}
-use Rattle.dn_world2.proofs.Worlds.{stays, clustered, no_receipt}
+use Rattle.dn_world2.proofs.Changes.{stays, clustered, no_receipt}
 use Rattle.dn_world2.proofs.Starting.{named_badly, busy, closed_now, numbered_one, numbered_session, named_lane, none_of, copied, IsStarting}
 use Rattle.dn_world2.proofs.crews.Crew.start.Goals as goal
 

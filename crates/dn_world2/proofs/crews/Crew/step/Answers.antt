@@ -18,7 +18,7 @@ use Rattle.dn_world2.specs.Takes.{tends_at, tries_at}
 use Rattle.dn_world2.specs.declared.crews.Came.{Came}
 use Rattle.dn_world2.proofs.Stepping.{comes_eq, unmade, on_made, made_of, number_of, some_of, step_stopped, step_working, step_resting, begun_session, can_be_sound, if_ok, not_both}
 use Rattle.dn_world2.proofs.TakingUp.{lane_is}
-use Rattle.dn_world2.proofs.Worlds.{stays, comes_of, counts_done}
+use Rattle.dn_world2.proofs.Changes.{stays, comes_of, counts_done}
 use Rattle.dn_world2.proofs.crews.Crew.step.Goals as goal
 
 pub returns-then-not-is_made-clause-came : goal.returns-then-not-is_made-clause-came

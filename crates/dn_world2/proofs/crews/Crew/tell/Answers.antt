@@ -8,7 +8,7 @@ use Rattle.dn_world2.specs.Comes.{Moves, bare}
 use Rattle.dn_world2.specs.Inside.{state_of}
 use Rattle.dn_world2.specs.State.{CrewState, world_of}
 use Rattle.dn_world2.proofs.Giving.{told_so, told_none}
-use Rattle.dn_world2.proofs.Worlds.{stays_so}
+use Rattle.dn_world2.proofs.Changes.{stays_so}
 use Rattle.dn_world2.proofs.crews.Crew.tell.Goals as goal
 
 pub returns-then-is_closed : goal.returns-then-is_closed

@@ -15,7 +15,7 @@ use Rattle.dn_tend.specs.declared.tasks.TaskAnswer.TheVariants as answer
 use Rattle.dn_world2.proofs.TakingUp.{takes_begun, takes_room, takes_fits, tends_sound, after_taking, tends_so, tends_barred, then_acts, taken_tend, refused_now}
 use Rattle.dn_lane2.specs.Refused.{Refuses}
 use Rattle.dn_cluster.specs.Asks.{refused_in}
-use Rattle.dn_world2.proofs.Worlds.{no_receipt}
+use Rattle.dn_world2.proofs.Changes.{no_receipt}
 use Rattle.dn_world2.proofs.crews.Crew.tend.Goals as goal
 
 pub give_task-requires-clause-runs : goal.give_task-requires-clause-runs

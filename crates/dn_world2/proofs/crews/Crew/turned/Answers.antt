@@ -4,7 +4,7 @@ use Rattle.dn_outcomes.specs.Going.{ends}
 use Rattle.dn_outcomes.specs.Steps.{by_turn}
 use Rattle.dn_outcomes.specs.declared.outcomes.CallAnswer.{CallAnswer}
 use Rattle.dn_world2.specs.Comes.{bare}
-use Rattle.dn_world2.proofs.Worlds.{moves_by}
+use Rattle.dn_world2.proofs.Changes.{moves_by}
 use Rattle.dn_world2.proofs.crews.Crew.turned.Goals as goal
 
 pub returns-in-Done-clause-came : goal.returns-in-Done-clause-came
