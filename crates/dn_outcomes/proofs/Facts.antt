@@ -1,4 +1,10 @@
-use Rattle.std.proofs.Common.{ℕ, ◌≡◌, ◌≢◌, ◌≤◌, ◌<◌, ◌^◌, true, false, List, [], ◌∷◌, Option, Some, None, Contains, nat_lt, nat_le, refl, sym, ◌∙◌, ap, subst, arith}
+use Rattle.std.proofs.Common.{if◌then◌else◌, Bool, ◌+◌, All, ℕ, ◌≡◌, ◌≢◌, ◌≤◌, ◌<◌, ◌^◌, true, false, List, [], ◌∷◌, Option, Some, None, Contains, nat_lt, nat_le, refl, sym, ◌∙◌, ap, subst, arith}
+use Rattle.std.proofs.lemmas.Option.{same_Some, none-some}
+use Rattle.dn_monitor.specs.Monitor.{IsOrder}
+use Rattle.dn_monitor.specs.declared.orders.Order.{Order}
+use Rattle.dn_orders.proofs.Takeovers.{heirs_are}
+use Rattle.dn_lane2.specs.Asked.{call_in}
+use Rattle.dn_outcomes.specs.Starts.{lane_or_none}
 use Rattle.std.proofs.lemmas.Bool.{and_parts, ltb-true, leb-true}
 use Rattle.dn_hist.specs.Calls.{key_of}
 use Rattle.dn_hist.specs.declared.calls.Call.{Call}
@@ -18,20 +24,20 @@ use Rattle.dn_lanes.specs.Calls.{IsCall}
 use Rattle.dn_lanes.specs.Phases.{IsAt}
 use Rattle.dn_callers.specs.Sessions.{IsSession}
 use Rattle.dn_machine.specs.State.{Machine}
-use Rattle.dn_machine.specs.Given.{IsOfSession, HasNoCall, IsFree, MayAsk}
+use Rattle.dn_machine.specs.Given.{IsOfSession, HasNoCall, IsFree, MayAsk, MayOrder}
 use Rattle.dn_machine.specs.Sound.{IsSound}
 use Rattle.dn_waiting.specs.Queues.{AtLane}
-use Rattle.dn_waiting.specs.Sound.{Shows, IsLoading, IsAtLoad}
-use Rattle.dn_waiting.specs.State.{call_of, at_lane}
+use Rattle.dn_waiting.specs.Sound.{Shows, IsLoading, IsAtLoad, IsLaneOrNone}
+use Rattle.dn_waiting.specs.State.{WaitingState, call_of, at_lane}
 use Rattle.dn_waiting.specs.Turns.{next_of, next_at}
 use Rattle.dn_waiting.specs.declared.calls.Next.TheVariants.{Tend, Try}
 use Rattle.dn_waiting.specs.declared.calls.OpenCall.{OpenCall}
 use Rattle.dn_waiting.specs.declared.calls.Place.{Place}
 use Rattle.dn_waiting.specs.declared.calls.Place.TheVariants.{Loading, Queued, Begun}
 use Rattle.dn_waiting.proofs.PlaceLaws.{not_both}
-use Rattle.dn_outcomes.specs.State.{World, is_made}
+use Rattle.dn_outcomes.specs.State.{World, is_made, may_name}
 use Rattle.dn_outcomes.specs.Going.{called, slot_at}
-use Rattle.dn_outcomes.specs.Sound.{view_by, view_at, load_at, load_of, MayBegin, IsWorld}
+use Rattle.dn_outcomes.specs.Sound.{view_by, view_at, load_at, load_of, MayBegin, IsAskedBy, IsTake, IsWorld}
 
 -- What is so of a world: what its lanes may take up, what its sessions load, and which lanes were made.
 
@@ -208,3 +214,42 @@ loading_slot w s slot h i e = (let f = loads_for w s slot h i e in f.1.slot_is �
 -- a call that is there has its session's last number
 pub call_number : (w : World) (s : ℕ) (c : OpenCall) → IsWorld w → IsSession s → call_of w.waiting s ≡ Some c → c.number ≡ (w.machine.callers.sessions s).number
 call_number w s c h i is = (h.calls.calls s c i is).number
+
+-- ---- what a lane was asked is the attempt that is under way there
+pub begun_view : (w : World) (n : ℕ) (l : LaneState) → IsWorld w → IsLane n → w.machine.lanes n ≡ Some l → (at_lane w.waiting n).begun ≡ view_by l.asked
+begun_view w n l h lane is = h.asked.begun n lane ∙ ap view_at is
+
+its_call : (w : WaitingState) (a : Asked) (view : SessionView) → view_by a ≡ Some view → IsAskedBy w a → called (call_of w view.session) ≡ call_in a
+its_call w asked.Nothing view e h = absurd (none-some view e)
+its_call w (asked.Call call v room) view e h = ap (λ (x : SessionView). called (call_of w x.session)) (sym (same_Some v view e)) ∙ h
+its_call w asked.Task view e h = absurd (none-some view e)
+
+pub asked_call : (w : World) (n : ℕ) (l : LaneState) (view : SessionView) → IsWorld w → IsLane n → w.machine.lanes n ≡ Some l → view_by l.asked ≡ Some view → called (call_of w.waiting view.session) ≡ call_in l.asked
+asked_call w n l view h lane is e = its_call w.waiting l.asked view e (h.asked.calls n l lane is)
+
+-- ---- what the monitor may be given, and which lane may be added
+live_below : (w : World) → IsWorld w → All (λ lane. (1 ≤ lane) × (lane < 64)) w.live
+live_below w h k d lt = (let p = h.live.lanes k d lt in (p.0, omega (arith, p.1, h.made.most)))
+
+pub may_give : (w : World) (o : Order) (heirs : List ℕ) → IsWorld w → IsOrder o → IsTake w.live o heirs → w.machine.monitor ≡ None → MayOrder w.machine o heirs
+may_give w o heirs h fits take none = record {
+  free = none;
+  fits = fits;
+  formatted = λ segments e. subst (λ x. IsTake w.live x heirs) e take;
+  lanes = λ lane e. heirs_are w.live heirs (live_below w h) (subst (λ x. IsTake w.live x heirs) e take);
+}
+
+pub may_add : (w : World) (n : ℕ) → IsWorld w → n ≡ w.made + 1 → n ≤ 63 → IsLane n × (w.machine.mergers n ≡ None)
+may_add w n h is few = (record { positive = omega (arith, is); below = omega (arith, few) }, h.made.not_made n (omega (arith, is)))
+
+-- ---- lanes that sessions name
+-- by its route a call goes to a lane, or to 0
+pub route_low : (n : ℕ) → lane_or_none n ≤ 63
+route_low n = by_test (nat_lt n 64) refl where
+  by_test : (b : Bool) → nat_lt n 64 ≡ b → (if b then n else 0) ≤ 63
+  by_test true e = omega (arith, ltb-true n 64 e)
+  by_test false e = omega arith
+
+pub may_name_lane : (w : World) (named : Option ℕ) → IsWorld w → may_name w named ≡ true → IsLaneOrNone named
+may_name_lane w None h e = tt
+may_name_lane w (Some n) h e = (let l : IsLane n = made_lane w n h e in (omega (arith, l.positive), omega (arith, l.below)))

@@ -1,4 +1,4 @@
-use Rattle.std.proofs.Common.{ℕ, ◌+◌, ◌≡◌, ◌<◌, ◌≤◌, ◌++◌, ◌∷◌, [], ◌&&◌, inl, inr, Bool, true, false, List, Option, Some, None, All, nat_lt, if◌then◌else◌, refl, sym, ◌∙◌, ap, subst, arith}
+use Rattle.std.proofs.Common.{ℕ, ◌+◌, ◌≡◌, ◌<◌, ◌≤◌, ◌++◌, ◌∷◌, [], ◌&&◌, inl, inr, Bool, true, false, List, Option, Some, None, nat_lt, if◌then◌else◌, refl, sym, ◌∙◌, ap, subst, arith}
 use Rattle.std.proofs.lemmas.Bool.{and_parts, ltb-true}
 use Rattle.std.proofs.lemmas.List.Elements.{All-push, Contains-push_cases}
 use Rattle.std.proofs.lemmas.List.Kept.{AllPairs-from_increasing}
@@ -10,7 +10,6 @@ use Rattle.dn_merge.specs.Merge.{Merging, started, merge_next, merge_after}
 use Rattle.dn_model.specs.Regions.{IsLane}
 use Rattle.dn_monitor.specs.Monitor.{Monitoring, IsOrder, monitor_next, monitor_turn, monitor_after}
 use Rattle.dn_monitor.specs.declared.orders.Order.{Order}
-use Rattle.dn_orders.proofs.Takeovers.{heirs_are}
 use Rattle.dn_store.specs.State.{with_at}
 use Rattle.dn_store.proofs.At.{at_other, at_by}
 use Rattle.dn_tend.specs.declared.tasks.Task.{Task}
@@ -34,7 +33,7 @@ use Rattle.dn_outcomes.specs.Orders.{leaves_by, release_at, release, orders_by, 
 use Rattle.dn_outcomes.specs.Steps.{flow_by, flow_at, flow, merges, merge}
 use Rattle.dn_outcomes.specs.Sound.{IsTake, TakesSo, view_at, AreMade, AreLive, IsWorld}
 use Rattle.dn_outcomes.specs.declared.outcomes.Outcome.TheVariants.{NoLane, LanesFull}
-use Rattle.dn_outcomes.proofs.Facts.{made_lane}
+use Rattle.dn_outcomes.proofs.Facts.{made_lane, may_give, may_add}
 use Rattle.dn_outcomes.proofs.Goes.{others_of, calls_after, asked_after, asked_beside}
 use Rattle.dn_outcomes.proofs.Waits.{Changed, lane_changed}
 use Rattle.dn_outcomes.proofs.Ends.{lane_asked}
@@ -171,17 +170,9 @@ monitor_kept w h = by_order (w.machine.monitor) refl where
   by_order (Some x) is = by_action x (monitor_next x) is refl
 
 -- ---- the monitor is given an order
-live_below : (w : World) → IsWorld w → All (λ lane. (1 ≤ lane) × (lane < 64)) w.live
-live_below w h k d lt = (let p = h.live.lanes k d lt in (p.0, omega (arith, p.1, h.made.most)))
-
 gives_so : (w : World) (o : Order) (heirs : List ℕ) → IsWorld w → IsOrder o → IsTake w.live o heirs → w.machine.monitor ≡ None → IsWorld (with_event w (Orders o heirs))
 gives_so w o heirs h fits take none = record {
-  machine = sound w.segments w.machine (Orders o heirs) h.machine (record {
-    free = none;
-    fits = fits;
-    formatted = λ segments e. subst (λ x. IsTake w.live x heirs) e take;
-    lanes = λ lane e. heirs_are w.live heirs (live_below w h) (subst (λ x. IsTake w.live x heirs) e take);
-  });
+  machine = sound w.segments w.machine (Orders o heirs) h.machine (may_give w o heirs h fits take none);
   waiting = h.waiting;
   calls = h.calls;
   asked = h.asked;
@@ -222,13 +213,12 @@ pub adds_kept : (w : World) → IsWorld w → IsWorld (adds w).world
 adds_kept w h = by_test (nat_lt w.made 63) refl where
   adds_so : (n : ℕ) → n ≡ w.made + 1 → n ≤ 63 → IsWorld (adds_lane w n).world
   adds_so n is few =
-      let lane : IsLane n = record { positive = omega (arith, is); below = omega (arith, few) } in
-      let none : w.machine.mergers n ≡ None = h.made.not_made n (omega (arith, is)) in record {
-        machine = sound w.segments w.machine (Adds n w.segments) h.machine (lane, none, refl);
+      let may : IsLane n × (w.machine.mergers n ≡ None) = may_add w n h is few in record {
+        machine = sound w.segments w.machine (Adds n w.segments) h.machine (may.0, may.1, refl);
         waiting = h.waiting;
         calls = h.calls;
         asked = lane_asked n w.waiting w.machine.lanes (fresh n w.segments) (asked_beside n w.waiting w.machine.lanes h.asked) tt tt
-            (h.asked.begun n lane ∙ none_runs w n h none (w.machine.lanes n) refl);
+            (h.asked.begun n may.0 ∙ none_runs w n h may.1 (w.machine.lanes n) refl);
         made = added_made w.made n w.machine.mergers (started n) h.made is few;
         live = added_live w.made n w.live h.live is;
       }

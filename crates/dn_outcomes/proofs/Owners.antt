@@ -28,13 +28,13 @@ use Rattle.dn_lane2.specs.declared.modes.Going.TheVariants.{On, End}
 use Rattle.dn_lane2.specs.declared.modes.Mode.{Mode}
 use Rattle.dn_machine.specs.Events.{Asks, Tends, found}
 use Rattle.dn_machine.specs.State.{Machine}
-use Rattle.dn_waiting.specs.State.{WaitingState, call_of, at_lane}
+use Rattle.dn_waiting.specs.State.{call_of, at_lane}
 use Rattle.dn_waiting.specs.Turns.{next_at}
 use Rattle.dn_waiting.specs.declared.calls.Next.{Next}
 use Rattle.dn_waiting.specs.declared.calls.Next.TheVariants.{Rest, Tend, Try}
 use Rattle.dn_outcomes.specs.Does.{does}
 use Rattle.dn_outcomes.specs.Going.{called, slot_at, told_of, ends_of, ends}
-use Rattle.dn_outcomes.specs.Sound.{view_by, is_calling, IsPlanOf, IsAskedBy, IsWorld}
+use Rattle.dn_outcomes.specs.Sound.{view_by, is_calling, IsPlanOf, IsWorld}
 use Rattle.dn_outcomes.specs.State.{World, done, with_event, is_made}
 use Rattle.dn_outcomes.specs.Steps.{by_turn, acts_by, acts_of, acts, takes_up, tends, tries, begins, steps_by, steps_of, step}
 use Rattle.dn_outcomes.specs.Told.{IsNoOwner}
@@ -44,7 +44,7 @@ use Rattle.dn_outcomes.specs.declared.outcomes.CallAnswer.TheVariants as answer
 use Rattle.dn_outcomes.specs.declared.outcomes.Outcome.{Outcome}
 use Rattle.dn_outcomes.specs.declared.outcomes.Outcome.TheVariants.{Answered, NoLane}
 use Rattle.dn_outcomes.proofs.Acts.{world_after, IsAction, view_same, begun_there, acted_is, taken_of, lane_action}
-use Rattle.dn_outcomes.proofs.Facts.{made_lane}
+use Rattle.dn_outcomes.proofs.Facts.{made_lane, asked_call}
 use Rattle.dn_outcomes.proofs.Refusing.{refusal, LooksBy, refuses_by}
 use Rattle.dn_outcomes.proofs.Steps.{IsAtRest, asks_kept, tends_kept, asking, tending}
 use Rattle.dn_outcomes.proofs.Told.{IsCalm, alike_called}
@@ -107,11 +107,6 @@ calling_of asked.Nothing m view e h = absurd (none-some view e)
 calling_of (asked.Call call v room) m view e h = h
 calling_of asked.Task m view e h = absurd (none-some view e)
 
-its_call : (w : WaitingState) (a : Asked) (view : SessionView) → view_by a ≡ Some view → IsAskedBy w a → called (call_of w view.session) ≡ call_in a
-its_call w asked.Nothing view e h = absurd (none-some view e)
-its_call w (asked.Call call v room) view e h = ap (λ (x : SessionView). called (call_of w x.session)) (sym (same_Some v view e)) ∙ h
-its_call w asked.Task view e h = absurd (none-some view e)
-
 look_so : (w : World) (n : ℕ) (l : LaneState) (action : Action) (s look : ℕ) → IsWorld w → IsLane n → w.machine.lanes n ≡ Some l → next_of l ≡ Some action
     → (let t : Taken = taken_of w l action in Refuses t.asked t.going s look) → IsNoOwner w n s look
 look_so w n l action s look h lane is next r =
@@ -122,7 +117,7 @@ look_so w n l action s look h lane is next r =
     let q : LooksBy l.base l.mode word look = refuses_by l.base l.asked l.mode word look (calling_of l.asked l.mode r.view view (h.asked.plans n l lane is)) r.look_is in
     let loads : next_of l ≡ Some (Load at) = ap (next_in l.base l.asked) q.mode_is in
     let there : at_of action ≡ at = ap at_of (same_Some action (Load at) (sym next ∙ loads)) in
-    let call : call_in l.asked ≡ called (call_of w.waiting s) = sym (its_call w.waiting l.asked r.view view (h.asked.calls n l lane is)) ∙ ap (λ k. called (call_of w.waiting k)) r.session in
+    let call : call_in l.asked ≡ called (call_of w.waiting s) = sym (asked_call w n l r.view h lane is view) ∙ ap (λ k. called (call_of w.waiting k)) r.session in
     let number : l.base.known.log.lane ≡ n = (h.machine.at.know.lanes n l is).log.lane in record {
       found = q.word_is ∙ ap (word_at w.machine.words) (there ∙ ap (λ (c : Call). deed_at (slot_of (key_of c))) call);
       other = ap (λ k. is_owner k look) (sym number) ∙ ap (is_owner l.base.known.log.lane) q.word_is ∙ q.other;

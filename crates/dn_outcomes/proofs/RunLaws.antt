@@ -12,7 +12,7 @@ use Rattle.dn_outcomes.specs.declared.outcomes.CallAnswer.TheVariants as answer
 use Rattle.dn_outcomes.specs.declared.outcomes.Outcome.{Outcome}
 use Rattle.dn_outcomes.specs.declared.outcomes.Outcome.TheVariants as outcome
 use Rattle.dn_outcomes.proofs.Kept.{kept}
-use Rattle.dn_outcomes.proofs.ToldEvents.{tells_so}
+use Rattle.dn_outcomes.proofs.ToldEvents.{receipts_so}
 
 -- Over a run the receipts that come to stand are those that outcomes tell, in their order.
 
@@ -54,6 +54,6 @@ pub told_calls : (w : World) (es : List (Event × List ℕ)) → IsWorld w → I
 told_calls w [] h run = sym (append-nil (calls_of w.machine.callers.receipts))
 told_calls w (x ∷ xs) h run =
     let d : Done = does w x.0 x.1 in
-    let first : Comes w d.world (made_in d.outcome) = stands_comes w d.world d.outcome (tells_so w x.0 x.1 h run.0).receipts in
+    let first : Comes w d.world (made_in d.outcome) = stands_comes w d.world d.outcome (receipts_so w x.0 x.1 h run.0) in
     let rest : Comes d.world (after d.world xs) (told_in d.world xs) = told_calls d.world xs (kept w x.0 x.1 h run.0) run.1 in
     rest ∙ ap (λ ys. ys ++ told_in d.world xs) first ∙ append_assoc (calls_of w.machine.callers.receipts) (made_in d.outcome) (told_in d.world xs)

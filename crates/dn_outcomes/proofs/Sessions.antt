@@ -1,9 +1,8 @@
-use Rattle.std.proofs.Common.{ℕ, ◌≡◌, ◌≤◌, ◌==◌, Bool, true, false, zero, suc, Option, Some, None, nat_lt, slice_index, if◌then◌else◌, refl, sym, ◌∙◌, ap, subst, arith}
-use Rattle.std.proofs.lemmas.Bool.{ltb-true}
+use Rattle.std.proofs.Common.{ℕ, ◌≡◌, ◌≤◌, ◌==◌, Bool, true, false, zero, suc, Option, Some, None, slice_index, if◌then◌else◌, refl, sym, ◌∙◌, ap, subst, arith}
 use Rattle.dn_hist.specs.Calls.{key_of}
 use Rattle.dn_hist.specs.declared.calls.Call.{Call}
 use Rattle.dn_hist.specs.declared.receipts.SessionView.{SessionView}
-use Rattle.dn_model.specs.Regions.{IsLane, slot_of, deed_at}
+use Rattle.dn_model.specs.Regions.{slot_of, deed_at}
 use Rattle.dn_act.specs.declared.actions.Action.TheVariants.{Load}
 use Rattle.dn_lanes.specs.Calls.{IsCall}
 use Rattle.dn_route.specs.SessionState.{view_of}
@@ -21,11 +20,11 @@ use Rattle.dn_waiting.specs.declared.calls.OpenCall.{OpenCall}
 use Rattle.dn_waiting.proofs.Changes.{started_sound, loaded_sound, named_lane}
 use Rattle.dn_outcomes.specs.State.{World, done, with_waiting, with_event, may_name}
 use Rattle.dn_outcomes.specs.declared.outcomes.Outcome.TheVariants.{NoLane}
-use Rattle.dn_outcomes.specs.Starts.{session_at, lane_or_none, route_in, starts, start_unless, start_beside, start, routes, refresh_of, refresh}
+use Rattle.dn_outcomes.specs.Starts.{session_at, route_in, starts, start_unless, start_beside, start, routes, refresh_of, refresh}
 use Rattle.dn_outcomes.specs.Does.{tells_unless, tells}
 use Rattle.dn_outcomes.specs.Going.{goes_on}
 use Rattle.dn_outcomes.specs.Sound.{IsCallOf, load_of, AreCalls, IsWorld}
-use Rattle.dn_outcomes.proofs.Facts.{made_lane, loads_for, loading, LoadsFor}
+use Rattle.dn_outcomes.proofs.Facts.{loads_for, loading, LoadsFor, route_low, may_name_lane}
 use Rattle.dn_outcomes.proofs.Goes.{AreOthers, IsBeside, others_of, others_load}
 use Rattle.dn_outcomes.proofs.Callers.{numbered_others, told_kept, routed_kept, first_begins, further_begins, begun_call}
 use Rattle.dn_outcomes.proofs.Starts.{starts_kept, routes_kept}
@@ -33,12 +32,6 @@ use Rattle.dn_outcomes.proofs.Starts.{starts_kept, routes_kept}
 -- What sessions do keeps a world.
 
 -- ---- lanes that are named
-route_low : (n : ℕ) → lane_or_none n ≤ 63
-route_low n = by_test (nat_lt n 64) refl where
-  by_test : (b : Bool) → nat_lt n 64 ≡ b → (if b then n else 0) ≤ 63
-  by_test true e = omega (arith, ltb-true n 64 e)
-  by_test false e = omega arith
-
 some_lane : (route : ℕ) → route ≤ 63 → (route == 0) ≡ false → IsPlace route
 some_lane zero h e = absurd (cc e)
 some_lane (suc n) h e = (omega arith, h)
@@ -58,10 +51,6 @@ at_first_lane named route h low = by_test (route == 0) refl where
   by_test : (b : Bool) → (route == 0) ≡ b → IsLaneOrNone (if b then None else named_or named (Some route))
   by_test true e = tt
   by_test false e = named_or_lane named (Some route) h (some_lane route low e)
-
-may_name_lane : (w : World) (named : Option ℕ) → IsWorld w → may_name w named ≡ true → IsLaneOrNone named
-may_name_lane w None h e = tt
-may_name_lane w (Some n) h e = (let l : IsLane n = made_lane w n h e in (omega (arith, l.positive), omega (arith, l.below)))
 
 -- ---- a session starts a call
 record MayStart (w : World) (s : ℕ) (named : Option ℕ) (call : Call) : Type 0 where

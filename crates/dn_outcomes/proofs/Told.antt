@@ -45,7 +45,7 @@ pub alike_is : (o p : Option OpenCall) → p ≡ o → Alike o p
 alike_is o p e = subst (Alike o) (sym e) (alike_same o)
 
 pub alike_goes : (o p : Option OpenCall) → Alike o p → GoesOn false o p
-alike_goes None p h = tt
+alike_goes None p h = h
 alike_goes (Some c) p h = h
 
 pub alike_called : (o p : Option OpenCall) → Alike o p → called p ≡ called o
@@ -61,7 +61,7 @@ calm_goes w now h s = alike_goes (call_of w.waiting s) (call_of now.waiting s) (
 
 -- ---- first a calm change, and then what is told
 goes_then : (b : Bool) (o p q : Option OpenCall) → Alike o p → GoesOn b p q → GoesOn b o q
-goes_then b None p q h g = tt
+goes_then b None p q h g = subst (λ x. GoesOn b x q) h g
 goes_then b (Some c) None q h g = absurd h
 goes_then true (Some c) (Some x) q h g = g
 goes_then false (Some c) (Some x) None h g = absurd g
@@ -149,7 +149,11 @@ pub refused_goes : (c : OpenCall) (named : Option ℕ) → GoesOn (is_given (cou
 refused_goes c named = refused_goes_by c named (nat_lt c.refused 7)
 
 settled_goes : (told : CallAnswer) (o : Option OpenCall) → GoesOn (is_made_by told || is_given (course_settled (end_of told) o)) o (settled (end_of told) o)
-settled_goes told None = tt
+settled_goes (answer.Made way) None = refl
+settled_goes (answer.NotOwner look cell) None = refl
+settled_goes (answer.Fenced word) None = refl
+settled_goes (answer.Full counter segments) None = refl
+settled_goes (answer.Worn stamp) None = refl
 settled_goes (answer.Made way) (Some c) = refl
 settled_goes (answer.NotOwner look cell) (Some c) = refused_goes c None
 settled_goes (answer.Fenced word) (Some c) = refused_goes c None

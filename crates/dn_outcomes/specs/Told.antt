@@ -1,5 +1,6 @@
-use Rattle.std.specs.Prelude.{◌≡◌, ◌==◌, ◌&&◌, ◌||◌, ◌++◌, ◌∷◌, [], ℕ, Bool, true, false, Option, Some, None}
+use Rattle.std.specs.Prelude.{◌≡◌, ◌+◌, ◌==◌, ◌&&◌, ◌||◌, ◌++◌, ◌∷◌, [], ℕ, Bool, true, false, Option, Some, None}
 use Rattle.dn_act.specs.Words.{word_at}
+use Rattle.dn_hist.specs.declared.calls.Call.{Call}
 use Rattle.dn_hist.specs.declared.receipts.Receipt.{Receipt}
 use Rattle.dn_model.specs.Regions.{deed_at}
 use Rattle.dn_plan.specs.Plan.{is_owner}
@@ -7,6 +8,8 @@ use Rattle.dn_waiting.specs.State.{WaitingState, call_of}
 use Rattle.dn_waiting.specs.declared.calls.OpenCall.{OpenCall}
 use Rattle.dn_outcomes.specs.Going.{called, slot_at}
 use Rattle.dn_outcomes.specs.State.{World}
+use Rattle.dn_outcomes.specs.declared.events.Event.{Event}
+use Rattle.dn_outcomes.specs.declared.events.Event.TheVariants as event
 use Rattle.dn_outcomes.specs.declared.outcomes.CallAnswer.{CallAnswer}
 use Rattle.dn_outcomes.specs.declared.outcomes.CallAnswer.TheVariants as answer
 use Rattle.dn_outcomes.specs.declared.outcomes.Outcome.{Outcome}
@@ -85,11 +88,52 @@ abbrev pub IsStill : OpenCall → Option OpenCall → Type 0
 IsStill c None = ⊥
 IsStill c (Some x) = (x.number ≡ c.number) × (x.call ≡ c.call)
 
--- it is gone where it has ended, and else still there
+-- it is gone where it has ended, and else still there; and none begins
 abbrev pub GoesOn : Bool → Option OpenCall → Option OpenCall → Type 0
-GoesOn end None now = Unit {0}
+GoesOn end None now = now ≡ None
 GoesOn true (Some c) now = now ≡ None
 GoesOn false (Some c) now = IsStill c now
+
+-- ---- session s starts a call by this event
+abbrev pub starts : Event → ℕ → Bool
+starts (event.Start t lane call) s = t == s
+starts (event.Step n) s = false
+starts (event.Flow n index) s = false
+starts (event.Merge n) s = false
+starts event.Monitor s = false
+starts (event.Refresh t) s = false
+starts (event.Give o) s = false
+starts (event.Queue n t) s = false
+starts event.Add s = false
+starts (event.Tell t u) s = false
+
+-- its call, which has the next number
+abbrev pub IsNew : Option OpenCall → ℕ → Call → Type 0
+IsNew None number call = ⊥
+IsNew (Some c) number call = (c.number ≡ number) × (c.call ≡ call)
+
+pub record HasBegun (w now : World) (s number : ℕ) (call : Call) : Type 0 where
+  pub free : call_of w.waiting s ≡ None
+  pub next : number ≡ (w.machine.callers.sessions s).number + 1
+  pub new : IsNew (call_of now.waiting s) number call
+
+-- or nothing has happened
+abbrev pub Starts : World → World → ℕ → Call → Outcome → Type 0
+Starts w now s call outcome.Nothing = now ≡ w
+Starts w now s call outcome.Acted = now ≡ w
+Starts w now s call (outcome.Numbered number) = HasBegun w now s number call
+Starts w now s call outcome.Busy = now ≡ w
+Starts w now s call outcome.Closed = now ≡ w
+Starts w now s call (outcome.Answered t number answer given) = now ≡ w
+Starts w now s call (outcome.GivenUp t number) = now ≡ w
+Starts w now s call (outcome.Ordered answer) = now ≡ w
+Starts w now s call outcome.MonitorBusy = now ≡ w
+Starts w now s call (outcome.Tended answer) = now ≡ w
+Starts w now s call (outcome.Added lane) = now ≡ w
+Starts w now s call outcome.LanesFull = now ≡ w
+Starts w now s call outcome.NoLane = now ≡ w
+Starts w now s call (outcome.Merged turn) = now ≡ w
+Starts w now s call (outcome.Fault actor) = now ≡ w
 
 -- ---- the number that is told is the call's
 abbrev pub HasNumber : Option OpenCall → ℕ → Type 0

@@ -1,11 +1,13 @@
 //! What is so of worlds, as functions without work: what each says is its contract.
 
-ghost use Rattle.std.specs.Prelude.{◌≡◌, ◌++◌, ℕ, Bool, List, Option};
+ghost use Rattle.std.specs.Prelude.{◌≡◌, ◌++◌, ℕ, Bool, false, List, Option};
 ghost use Rattle.dn_hist.specs.Calls.{Bytes};
 ghost use Rattle.dn_hist.specs.Replay.{IsLegal, map_left};
+ghost use Rattle.dn_hist.specs.declared.calls.Call.{Call};
 ghost use Rattle.dn_hist.specs.declared.receipts.Receipt.{Receipt};
 ghost use Rattle.dn_model.specs.PoolMap.{HoldsMap};
 ghost use Rattle.dn_route.specs.CallersOrder.{KeepsCallersOrder};
+ghost use Rattle.dn_callers.specs.Sessions.{IsSession};
 ghost use Rattle.dn_machine.specs.Histories.{IsHistory};
 ghost use Rattle.dn_machine.specs.Sound.{IsSound};
 ghost use Rattle.dn_machine.specs.State.{resting};
@@ -15,7 +17,7 @@ ghost use Rattle.dn_outcomes.specs.Effects.{Effect};
 ghost use Rattle.dn_outcomes.specs.Runs.{after, IsRun, told_in, calls_of};
 ghost use Rattle.dn_outcomes.specs.Sound.{IsWorld, MayHappen};
 ghost use Rattle.dn_outcomes.specs.State.{World, opened};
-ghost use Rattle.dn_outcomes.specs.Told.{Stands, is_end, GoesOn, Names, IsNoOwner};
+ghost use Rattle.dn_outcomes.specs.Told.{Stands, starts, Starts, is_end, GoesOn, Names, IsNoOwner};
 ghost use Rattle.dn_outcomes.specs.declared.outcomes.CallAnswer.TheVariants.{NotOwner};
 ghost use Rattle.dn_outcomes.specs.declared.outcomes.Outcome.TheVariants.{Answered};
 ghost use Rattle.dn_outcomes.specs.declared.events.Event.TheVariants as event;
@@ -47,15 +49,19 @@ pub fn histories()
 {}
 
 /// A call that is told as made has its receipt, which comes to stand by that event and no other: it is answered, of the
-/// session and number that are told, and of the call that the session has. A session's call stays the same until an
-/// outcome tells that it was made or is given up, and is gone then. A number that is told is the call's. So over a run the
-/// receipts that come to stand are those that are told, in the same order.
+/// session and number that are told, and of the call that the session has. A session that starts a call, with the next
+/// number, had none; its call stays the same until an outcome tells that it was made or is given up, and is gone then. A
+/// number that is told is the call's. So over a run the receipts that come to stand are those that are told, in the same
+/// order.
 pub fn outcomes()
     ensures receipts { (w : World) (e : Event) (heirs : List ℕ) → IsWorld w → MayHappen w e heirs
         → Stands w (does w e heirs).world (does w e heirs).outcome }
     ensures calls { (w : World) (e : Event) (heirs : List ℕ) (s : ℕ) → IsWorld w
-        → MayHappen w e heirs → GoesOn (is_end (does w e heirs).outcome s) (call_of w.waiting s)
-        (call_of (does w e heirs).world.waiting s) }
+        → MayHappen w e heirs → starts e s ≡ false → GoesOn (is_end (does w e heirs).outcome s)
+        (call_of w.waiting s) (call_of (does w e heirs).world.waiting s) }
+    ensures begins { (w : World) (s : ℕ) (lane : Option ℕ) (call : Call) (heirs : List ℕ)
+        → IsWorld w → IsSession s → Starts w (does w (event.Start s lane call) heirs).world s call
+        (does w (event.Start s lane call) heirs).outcome }
     ensures numbers { (w : World) (e : Event) (heirs : List ℕ) → IsWorld w → MayHappen w e heirs
         → Names w.waiting (does w e heirs).outcome }
     ensures runs { (w : World) (es : List (Event × List ℕ)) → IsWorld w → IsRun w es
