@@ -5,6 +5,8 @@ use Rattle.dn_act.specs.declared.actions.Action.{Action}
 use Rattle.dn_hist.specs.declared.receipts.Receipt.{Receipt}
 use Rattle.dn_model.specs.Register.{may_write}
 use Rattle.dn_route.specs.CallersOrder.{Told}
+use Rattle.dn_merge.specs.Merge.{Merging, started, merge_next}
+use Rattle.dn_monitor.specs.Monitor.{Monitoring, monitor_next}
 use Rattle.dn_lane2.specs.Asked.{view_in}
 use Rattle.dn_lane2.specs.Next.{next_of}
 use Rattle.dn_lane2.specs.State.{LaneState}
@@ -16,17 +18,20 @@ use Rattle.dn_beside.specs.Pool.{Pool}
 use Rattle.dn_callers.specs.Callers.{Callers, Standing}
 use Rattle.dn_callers.specs.Changes.{closed_at}
 use Rattle.dn_machine.specs.State.{Machine}
-use Rattle.dn_machine.specs.Events.{Lane, Fails, Stops, found, acted, closed_for, written, of_lane, lane_stops, lane_fails, happens}
+use Rattle.dn_machine.specs.Events.{Lane, Merger, Monitor, Fails, Stops, Renews, Drops, with_merger, of_merger, of_monitor, monitor_fails, found, acted, acted_if, closed_for, written, of_lane, lane_stops, lane_fails, happens}
 use Rattle.dn_machine.specs.Sound.{IsMachineAt, IsSound}
 use Rattle.dn_machine.proofs.Calls.{taken_same, IsAnswer, answer_of}
 use Rattle.dn_machine.proofs.Kept.{sound}
 use Rattle.dn_machine.proofs.LaneActs.{lane_comes}
 use Rattle.dn_cluster.specs.State.{ClusterState, numbered}
-use Rattle.dn_cluster.specs.Machine.{machine_of, lane_in}
+use Rattle.dn_cluster.specs.Machine.{machine_of, lane_in, merger_in}
 use Rattle.dn_cluster.specs.Does.{CanBeSound, Does, FailsAs}
 use Rattle.dn_cluster.proofs.Playing.{given_can}
 
--- A lane whose action failed is stopped: its cluster can be sound over the words that the action left, done or not done.
+-- An actor whose action failed goes on no further: its cluster can be sound over the words that the action left, done or
+-- not done.
+
+-- ---- a lane is stopped
 
 -- ---- where no word is another
 stopped_can : (words now : List ℕ) (c d : ClusterState) (n : ℕ) → now ≡ words → Does c d (Stops n) → d.segments ≡ c.segments → CanBeSound words c → CanBeSound now d
@@ -117,3 +122,71 @@ failed_can words now c d n fails does same h = by_lane (lane_in (numbered c.node
   by_lane : (o : Option LaneState) → lane_in (numbered c.nodes n) ≡ o → CanBeSound now d
   by_lane None e = stopped_can words now c d n (now_is None e) does same h
   by_lane (Some l) e = by_next l (next_of l) fails.done e refl (now_is (Some l) e)
+
+-- ---- a merger whose action failed begins anew
+pub merger_failed_can : (words now : List ℕ) (c d : ClusterState) (n : ℕ) → FailsAs words c now (λ done. Fails (Merger n) done) → Does c d (Renews n) → d.segments ≡ c.segments → CanBeSound words c → CanBeSound now d
+merger_failed_can words now c d n fails does same h = record {
+  told = h.told;
+  receipts = h.receipts;
+  sound = subst (λ (k : ℕ). IsSound k (machine_of now d h.told h.receipts)) (sym same)
+      (subst (λ (k : Machine). IsSound c.segments k) (sym (by_merger (merger_in (numbered c.nodes n)) fails.done refl (fails.so h.told h.receipts)))
+      (sound c.segments m (Fails (Merger n) fails.done) h.sound tt));
+} where
+  m : Machine
+  m = machine_of words c h.told h.receipts
+
+  anew : Machine → Machine
+  anew k = with_merger k n (Some (started n))
+
+  failed_by : Option Merging → Bool → Machine
+  failed_by o b = of_merger m o (λ x. anew (acted_if m (merge_next x) b))
+
+  renewed : (o : Option Merging) → merger_in (numbered c.nodes n) ≡ o
+      → machine_of now d h.told h.receipts ≡ of_merger (machine_of now c h.told h.receipts) o (λ x. anew (machine_of now c h.told h.receipts))
+  renewed o e =
+      does.is now h.told h.receipts ∙ ap (λ (x : Option Merging). of_merger (machine_of now c h.told h.receipts) x (λ y. anew (machine_of now c h.told h.receipts))) e
+
+  by_merger : (o : Option Merging) (b : Bool) → merger_in (numbered c.nodes n) ≡ o → now ≡ (failed_by (merger_in (numbered c.nodes n)) b).words
+      → machine_of now d h.told h.receipts ≡ failed_by (merger_in (numbered c.nodes n)) b
+  by_merger None b e after =
+      renewed None e ∙ ap (λ (w : List ℕ). machine_of w c h.told h.receipts) (after ∙ ap (λ (x : Option Merging). (failed_by x b).words) e) ∙ sym (ap (λ (x : Option Merging). failed_by x b) e)
+  by_merger (Some x) true e after =
+      renewed (Some x) e ∙ ap (λ (w : List ℕ). anew (machine_of w c h.told h.receipts)) (after ∙ ap (λ (y : Option Merging). (failed_by y true).words) e)
+      ∙ sym (ap (λ (y : Option Merging). failed_by y true) e)
+  by_merger (Some x) false e after =
+      renewed (Some x) e ∙ ap (λ (w : List ℕ). anew (machine_of w c h.told h.receipts)) (after ∙ ap (λ (y : Option Merging). (failed_by y false).words) e)
+      ∙ sym (ap (λ (y : Option Merging). failed_by y false) e)
+
+-- ---- an order whose action failed is dropped
+dropped_can : (words now : List ℕ) (c d : ClusterState) → now ≡ words → Does c d Drops → d.segments ≡ c.segments → CanBeSound words c → CanBeSound now d
+dropped_can words now c d is does same h = subst (λ (w : List ℕ). CanBeSound w d) (sym is) (given_can words c d Drops does same (λ told receipts. tt) h)
+
+pub monitor_failed_can : (words now : List ℕ) (c d : ClusterState) → FailsAs words c now (λ done. Fails Monitor done) → Does c d Drops → d.segments ≡ c.segments → CanBeSound words c → CanBeSound now d
+monitor_failed_can words now c d fails does same h = by_monitor c.monitor refl where
+  m : Machine
+  m = machine_of words c h.told h.receipts
+
+  now_is : (o : Option Monitoring) → c.monitor ≡ o → now ≡ (of_monitor m o (λ x. monitor_fails m fails.done (monitor_next x))).words
+  now_is o e = fails.so h.told h.receipts ∙ ap (λ (x : Option Monitoring). (of_monitor m x (λ y. monitor_fails m fails.done (monitor_next y))).words) e
+
+  done_so : (x : Monitoring) (action : Action) → c.monitor ≡ Some x → monitor_next x ≡ Some action → now ≡ words_after action words → CanBeSound now d
+  done_so x action e next after = record {
+    told = h.told;
+    receipts = h.receipts;
+    sound = subst (λ (k : ℕ). IsSound k (machine_of now d h.told h.receipts)) (sym same)
+        (subst (λ (k : Machine). IsSound c.segments k)
+        (ap (λ (o : Option Monitoring). of_monitor m o (λ y. monitor_fails m true (monitor_next y))) e
+        ∙ ap (λ (o : Option Action). monitor_fails m true o) next
+        ∙ ap (λ (w : List ℕ). let k : Machine = machine_of w c h.told h.receipts in record k { monitor = None }) (sym after)
+        ∙ sym (does.is now h.told h.receipts))
+        (sound c.segments m (Fails Monitor true) h.sound tt));
+  }
+
+  by_next : (x : Monitoring) (o : Option Action) (b : Bool) → c.monitor ≡ Some x → monitor_next x ≡ o → now ≡ (monitor_fails m b o).words → CanBeSound now d
+  by_next x None b e next after = dropped_can words now c d after does same h
+  by_next x (Some action) true e next after = done_so x action e next after
+  by_next x (Some action) false e next after = dropped_can words now c d after does same h
+
+  by_monitor : (o : Option Monitoring) → c.monitor ≡ o → CanBeSound now d
+  by_monitor None e = dropped_can words now c d (now_is None e) does same h
+  by_monitor (Some x) e = by_next x (monitor_next x) fails.done e refl (now_is (Some x) e)

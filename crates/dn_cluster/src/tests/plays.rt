@@ -1,5 +1,5 @@
-//! A cluster with a pool of which no access fails. All that is asked of it is asked where it may be: what its caller
-//! gets wrong fails the test.
+//! A cluster with a pool of which an access fails only where that is asked for. Each thing is asked of the cluster where
+//! it may be: what a caller gets wrong fails the test.
 
 ghost use Rattle.std.specs.Prelude.{◌≡◌, ◌<◌, ◌≤◌, ℕ, [], Some, None, false, IsTrue, All};
 ghost use Rattle.std.specs.List.Sorted.{IsStrictlyIncreasing};
@@ -170,6 +170,23 @@ impl Play {
         let acted = self.cluster.act(&mut self.pool, Actor::Lane(lane));
         assert!(rt; is_fault(&acted));
         self.cluster.stop(lane)
+    }
+
+    /// The next action of a merger fails, and is done or not done. Then the merger begins anew.
+    pub fn fail_merger(&mut self, rt: &impl Abort, lane: u8, done: bool) {
+        self.pool.fail(done);
+        let acted = self.cluster.act(&mut self.pool, Actor::Merger(lane));
+        assert!(rt; is_fault(&acted));
+        assert!(rt; is_made(&self.cluster, lane));
+        self.cluster.renew(lane);
+    }
+
+    /// The next action of the monitor fails, and is done or not done. Then the order is dropped.
+    pub fn fail_monitor(&mut self, rt: &impl Abort, done: bool) {
+        self.pool.fail(done);
+        let acted = self.cluster.act(&mut self.pool, Actor::Monitor);
+        assert!(rt; is_fault(&acted));
+        self.cluster.drop_order();
     }
 
     /// Makes the next lane.

@@ -106,7 +106,7 @@ fn ends(
 
 #[test]
 fn lanes_end_at_random(rt: HostRuntime) -> Result<(), Fail> {
-    for seed in 0..24u32 {
+    for seed in 0..60u32 {
         let end = match seed % 3 {
             0 => End::Stops,
             1 => End::Fails { done: false },
