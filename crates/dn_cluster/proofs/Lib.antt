@@ -10,3 +10,5 @@ pub mod Given
 pub mod Kept
 pub mod Takes
 pub mod Opening
+pub mod Playing
+pub mod Failing

@@ -13,3 +13,6 @@ mod nodes;
 
 pub use actors::{Acted, Actor};
 pub use clusters::{AddFault, Cluster};
+
+#[cfg(test)]
+mod tests;

@@ -8,3 +8,4 @@ pub mod TakingUp
 pub mod Stepping
 pub mod Others
 pub mod Giving
+pub mod Events
