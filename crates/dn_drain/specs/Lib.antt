@@ -1,0 +1,6 @@
+pub mod Alone
+pub mod Ends
+pub mod Left
+pub mod Leaves
+pub mod Acted
+pub mod Drained
