@@ -22,7 +22,7 @@ use Rattle.dn_cluster.specs.declared.actors.Acted.{Acted}
 use Rattle.dn_cluster.specs.declared.actors.Acted.TheVariants as acted
 use Rattle.dn_cluster.specs.declared.actors.Actor.TheVariants as actor
 use Rattle.dn_cluster.proofs.Places.{HasNode, has_node, merger_is}
-use Rattle.dn_drain.specs.Acted.{HasActed, LeavesOthers}
+use Rattle.dn_drain.specs.Acted.{HasActed, LeavesActors, LeavesOthers}
 use Rattle.dn_drain.specs.Alone.{Alone, merger_or, alone_in, answer_by, step_by}
 use Rattle.dn_drain.specs.Drained.{IsFull, IsStepped}
 use Rattle.dn_drain.specs.Leaves.{LeavesWords}
@@ -71,6 +71,9 @@ does_so words c n can made =
     let P : List ℕ → Type 0 = λ ws. DoesSo n (record { words = ws; merger = x }) in
     subst P h.words (does_at n can.sound.p x h.whole (h.actors.numbers n x is) (omega (arith, h.room.buckets)) (h.know.mergers n x is))
 
+pub its_lane : (words : List ℕ) (c : ClusterState) (n : ℕ) → CanBeSound words c → IsMade c n → IsLane n
+its_lane words c n can made = can.sound.at.actors.numbers n (merger_or n (merger_in (numbered c.nodes n))) (made_is c n made)
+
 -- ---- as an event
 -- the machine after it
 abbrev pub moved : Machine → ℕ → Merging → Machine
@@ -102,12 +105,14 @@ moved_others words now c d n told receipts e =
     let m : Machine = machine_of words c told receipts in
     let x : Merging = (alone_in words c n).merger in
     record {
-      lanes = λ k. ap (λ (y : Machine). y.lanes k) e;
+      actors = record {
+        lanes = λ k. ap (λ (y : Machine). y.lanes k) e;
+        monitor = ap (λ (y : Machine). y.monitor) e;
+        sessions = λ s. ap (λ (y : Machine). y.callers.sessions s) e;
+        closed = λ s. ap (λ (y : Machine). y.callers.closed s) e;
+        loads = λ s. ap (λ (y : Machine). y.loads s) e;
+      };
       mergers = λ k other. ap (λ (y : Machine). y.mergers k) e ∙ at_other m.mergers n (Some (merge_after x (found m (merge_next x)))) k other;
-      monitor = ap (λ (y : Machine). y.monitor) e;
-      sessions = λ s. ap (λ (y : Machine). y.callers.sessions s) e;
-      closed = λ s. ap (λ (y : Machine). y.callers.closed s) e;
-      loads = λ s. ap (λ (y : Machine). y.loads s) e;
     }
 
 has_moved : (words now : List ℕ) (c d : ClusterState) (n : ℕ) → Happens words c now d [] (Acts (Merger n)) → HasActed words c now d n 1
@@ -177,24 +182,31 @@ fail_leaves words now c n can made f =
     f.so can.told can.receipts ∙ ap (λ (o : Option Merging). (of_merger m o (λ y. with_merger (acted_if m (merge_next y) f.done) n (Some (started n)))).words) (made_is c n made) in
     subst (λ ws. LeavesWords n words ws) (sym is) (fail_words words c n can.told can.receipts f.done can made)
 
-pub same_others : (n : ℕ) (c d : ClusterState) → d ≡ c → LeavesOthers n c d
-same_others n c d e = subst (λ (x : ClusterState). LeavesOthers n c x) (sym e) (record {
+pub same_actors : (c : ClusterState) → LeavesActors c c
+same_actors c = record {
   lanes = λ k. refl;
-  mergers = λ k other. refl;
   monitor = refl;
   sessions = λ s. refl;
   closed = λ s. refl;
   loads = λ s. refl;
-})
+}
 
-pub others_stay : (n : ℕ) (b c d : ClusterState) → LeavesOthers n b c → LeavesOthers n c d → LeavesOthers n b d
-others_stay n b c d h k = record {
+pub same_others : (n : ℕ) (c d : ClusterState) → d ≡ c → LeavesOthers n c d
+same_others n c d e = subst (λ (x : ClusterState). LeavesOthers n c x) (sym e) (record { actors = same_actors c; mergers = λ k other. refl })
+
+pub actors_stay : (b c d : ClusterState) → LeavesActors b c → LeavesActors c d → LeavesActors b d
+actors_stay b c d h k = record {
   lanes = λ i. k.lanes i ∙ h.lanes i;
-  mergers = λ i other. k.mergers i other ∙ h.mergers i other;
   monitor = k.monitor ∙ h.monitor;
   sessions = λ s. k.sessions s ∙ h.sessions s;
   closed = λ s. k.closed s ∙ h.closed s;
   loads = λ s. k.loads s ∙ h.loads s;
+}
+
+pub others_stay : (n : ℕ) (b c d : ClusterState) → LeavesOthers n b c → LeavesOthers n c d → LeavesOthers n b d
+others_stay n b c d h k = record {
+  actors = actors_stay b c d h.actors k.actors;
+  mergers = λ i other. k.mergers i other ∙ h.mergers i other;
 }
 
 -- ---- the call does nothing else

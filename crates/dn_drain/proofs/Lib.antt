@@ -5,3 +5,4 @@ pub mod Falling
 pub mod Running
 pub mod Acting
 pub mod Draining
+pub mod Lanes

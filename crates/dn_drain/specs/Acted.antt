@@ -22,11 +22,15 @@ pub record HasActed (words : List ℕ) (c : ClusterState) (now : List ℕ) (d : 
   pub is : (told : List Told) (receipts : List Standing) → IsSound c.segments (machine_of words c told receipts)
       → IsActed words c now d n k told receipts
 
--- All of a cluster but the merger of lane n: its lanes, all other mergers, the monitor's order and the sessions.
-pub record LeavesOthers (n : ℕ) (c d : ClusterState) : Type 0 where
+-- All of a cluster but its mergers: the lanes that run, the monitor's order and the sessions.
+pub record LeavesActors (c d : ClusterState) : Type 0 where
   pub lanes : (k : ℕ) → lane_in (numbered d.nodes k) ≡ lane_in (numbered c.nodes k)
-  pub mergers : (k : ℕ) → k ≢ n → merger_in (numbered d.nodes k) ≡ merger_in (numbered c.nodes k)
   pub monitor : d.monitor ≡ c.monitor
   pub sessions : (s : ℕ) → session_at d s ≡ session_at c s
   pub closed : (s : ℕ) → closed_in (numbered d.clients s) ≡ closed_in (numbered c.clients s)
   pub loads : (s : ℕ) → load_in (numbered d.clients s) ≡ load_in (numbered c.clients s)
+
+-- All but the merger of lane n.
+pub record LeavesOthers (n : ℕ) (c d : ClusterState) : Type 0 where
+  pub actors : LeavesActors c d
+  pub mergers : (k : ℕ) → k ≢ n → merger_in (numbered d.nodes k) ≡ merger_in (numbered c.nodes k)

@@ -4,3 +4,4 @@ pub mod Left
 pub mod Leaves
 pub mod Acted
 pub mod Drained
+pub mod All

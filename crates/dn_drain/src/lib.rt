@@ -2,5 +2,7 @@
 #![tactic(auto)]
 
 mod drains;
+mod every;
 
 pub use drains::{DrainFault, Merged, drain};
+pub use every::{LaneFault, drain_all};
