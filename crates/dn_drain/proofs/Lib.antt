@@ -6,3 +6,5 @@ pub mod Running
 pub mod Acting
 pub mod Draining
 pub mod Lanes
+pub mod Renewing
+pub mod Playing

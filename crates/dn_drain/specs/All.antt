@@ -3,7 +3,7 @@ use Rattle.dn_route.specs.CallersOrder.{Told}
 use Rattle.dn_callers.specs.Callers.{Standing}
 use Rattle.dn_machine.specs.Sound.{IsSound}
 use Rattle.dn_cluster.specs.State.{ClusterState}
-use Rattle.dn_cluster.specs.Machine.{machine_of}
+use Rattle.dn_cluster.specs.Machine.{machine_of, IsMade}
 use Rattle.dn_drain.specs.Drained.{IsDrained, idle_of, IsDrainFault, IsMerged}
 use Rattle.dn_drain.specs.declared.drains.Merged.{Merged}
 use Rattle.dn_drain.specs.declared.every.LaneFault.{LaneFault}
@@ -16,10 +16,11 @@ AreDrained words c zero now d = (now ≡ words) × (d ≡ c)
 AreDrained words c (suc n) now d = (left : List ℕ) × (b : ClusterState) × (merged : Merged)
     × AreDrained words c n left b × IsDrained left b now d (n + 1) (idle_of merged)
 
--- a fault ends it at a lane
+-- a fault ends it at a lane that was made
 pub record IsLaneFault (words : List ℕ) (c : ClusterState) (now : List ℕ) (d : ClusterState) (at : LaneFault) : Type 0 where
   pub before : ℕ
   pub next : before + 1 ≡ at.lane
+  pub made : IsMade d at.lane
   pub left : List ℕ
   pub cluster : ClusterState
   pub drained : AreDrained words c before left cluster

@@ -3,6 +3,10 @@
 
 mod drains;
 mod every;
+pub mod laws;
 
 pub use drains::{DrainFault, Merged, drain};
 pub use every::{LaneFault, drain_all};
+
+#[cfg(test)]
+mod tests;
