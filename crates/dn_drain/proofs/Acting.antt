@@ -43,7 +43,7 @@ made_is c n made =
 pub record DoesSo (n : ℕ) (a : Alone) : Type 0 where
   pub number : a.merger.lane ≡ n
   pub falls : answer_by a ≡ More → left_by n (step_by a) < left_by n a
-  pub full : (counter : ℕ) → answer_by a ≡ IndexFull counter → IsFull (step_by a).words counter
+  pub full : (counter : ℕ) → answer_by a ≡ IndexFull counter → IsFull (step_by a).words n counter
   pub leaves : LeavesWords n a.words (step_by a).words
 
 does_here : (n : ℕ) (p : Pool) (place : MergePlace) → IsWhole p → IsLane n → (store_in p).bucket_count + 1 < 2 ^ 64 → KnowsMerge n p place → DoesSo n (record { words = p.words; merger = record { lane = n; place = place } })
@@ -165,8 +165,8 @@ pub step_falls : (words now : List ℕ) (c d : ClusterState) (n : ℕ) → CanBe
 step_falls words now c d n can made s =
     subst (λ (a : Alone). left_by n a < left_by n (alone_in words c n)) (sym s.after) ((does_so words c n can made).falls s.answer_is)
 
-pub step_full : (words now : List ℕ) (c d : ClusterState) (n counter : ℕ) → CanBeSound words c → IsMade c n → IsStepped words c now d n (IndexFull counter) → IsFull now counter
-step_full words now c d n counter can made s = subst (λ ws. IsFull ws counter) (now_is words now c d n (IndexFull counter) s) ((does_so words c n can made).full counter s.answer_is)
+pub step_full : (words now : List ℕ) (c d : ClusterState) (n counter : ℕ) → CanBeSound words c → IsMade c n → IsStepped words c now d n (IndexFull counter) → IsFull now n counter
+step_full words now c d n counter can made s = subst (λ ws. IsFull ws n counter) (now_is words now c d n (IndexFull counter) s) ((does_so words c n can made).full counter s.answer_is)
 
 -- ---- an access that failed
 fail_words : (words : List ℕ) (c : ClusterState) (n : ℕ) (told : List Told) (receipts : List Standing) (done : Bool) → CanBeSound words c → IsMade c n

@@ -103,7 +103,7 @@ merged words mid now c b d n j gate mark h s can made =
     let P : List ℕ → ℕ → Type 0 = λ x y. AreLoaded x y gate mark in
     let Q : List ℕ → Type 0 = λ x. AreLoaded x n gate mark in
     let r : AreLoaded now n gate mark = subst Q ws (subst (P (step_by (run_by a (suc j))).words) lane l) in
-    record { gate = r.gate_is; mark = r.mark_is; all = r.all }
+    record { gate_is = r.gate_is; mark_is = r.mark_is; all = r.all }
 
 pub cut_off : (words mid now : List ℕ) (c b d : ClusterState) (n k : ℕ) → IsGoing words c mid b n k → d ≡ b → FailsAs mid b now (Fails (Merger n)) → IsCutOff words c now d n
 cut_off words mid now c b d n k h e f = record {

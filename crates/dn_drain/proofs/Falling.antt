@@ -1,4 +1,4 @@
-use Rattle.std.proofs.Common.{ℕ, ◌+◌, ◌-◌, ◌*◌, ◌^◌, ◌%◌, ◌==◌, ◌<◌, ◌≤◌, ◌≡◌, inl, inr, Bool, true, false, if◌then◌else◌, List, Option, Some, None, length, sym, ◌∙◌, ap, subst, arith}
+use Rattle.std.proofs.Common.{ℕ, ◌+◌, ◌-◌, ◌*◌, ◌^◌, ◌%◌, ◌==◌, ◌<◌, ◌≤◌, ◌≡◌, ◌⊎◌, inl, inr, Bool, true, false, if◌then◌else◌, List, Option, Some, None, length, sym, ◌∙◌, ap, subst, arith}
 use Rattle.std.proofs.lemmas.List.{set-get_or}
 use Rattle.dn_word.specs.Gate.{gate_of}
 use Rattle.dn_word.specs.Regions.{overflow_counter_at}
@@ -29,9 +29,9 @@ use Rattle.dn_merge.specs.declared.places.MergePlace.{MergePlace}
 use Rattle.dn_merge.specs.declared.places.MergePlace.TheVariants as at
 use Rattle.dn_merge.specs.declared.mergers.MergeTurn.{MergeTurn}
 use Rattle.dn_merge.specs.declared.mergers.MergeTurn.TheVariants.{More, Idle, IndexFull}
-use Rattle.dn_turns.specs.Knows.{AtHeader, AtPass}
+use Rattle.dn_turns.specs.Knows.{AtHeader, AtWalk, AtPass}
 use Rattle.dn_turns.proofs.Loads.{Loads, load_leaves}
-use Rattle.dn_turns.proofs.Logs.{spelled}
+use Rattle.dn_turns.proofs.Logs.{spelled, mark_below}
 use Rattle.dn_drain.specs.Drained.{IsFull}
 use Rattle.dn_drain.specs.Left.{unmerged, left_at}
 use Rattle.dn_drain.proofs.Leaving.{IsActing, leaves_words, gate_stays, index_still}
@@ -122,7 +122,12 @@ falls n p (at.Walk to w) word now h e = walk_falls n p to w word now h e
 falls n p (at.Pass to) word now h e = pass_falls n p to word now h
 
 -- ---- no bucket is left
-counter_by : (p : Pool) (k : ℕ) (place : WalkPlace) (word : ℕ) (now : List ℕ) → IsWhole p → (store_in p).bucket_count + 1 < 2 ^ 64 → NeedsMore place word → Performs (next_at k place) word p.words now → IsFull now word
+-- the counter is that of the words, but for the add that found it
+pub record IsCounter (words : List ℕ) (counter : ℕ) : Type 0 where
+  pub least : 4096 ≤ counter
+  pub found : (word_at words overflow_counter_at ≡ counter) ⊎ (word_at words overflow_counter_at ≡ counter + 1)
+
+counter_by : (p : Pool) (k : ℕ) (place : WalkPlace) (word : ℕ) (now : List ℕ) → IsWhole p → (store_in p).bucket_count + 1 < 2 ^ 64 → NeedsMore place word → Performs (next_at k place) word p.words now → IsCounter now word
 counter_by p k (Key errand t number) word now h few i e = absurd i
 counter_by p k (Next errand t) word now h few i e = absurd i
 counter_by p k (Match errand s) word now h few i e = absurd i
@@ -163,7 +168,16 @@ headed_full mark from counter (Some found) e = by_kind (change_of found) e where
   by_kind None f = more_full counter f
   by_kind (Some change) f = more_full counter f
 
-pub full : (n : ℕ) (p : Pool) (place : MergePlace) (word : ℕ) (now : List ℕ) (counter : ℕ) → (store_in p).bucket_count + 1 < 2 ^ 64 → IsActing n p place word now → (step_in n word place).turn ≡ IndexFull counter → IsFull now counter
+-- and the record on which it works isn't merged
+still_left : (n : ℕ) (p : Pool) (to : ℕ) (w : Walking) (word : ℕ) (now : List ℕ) → IsActing n p (at.Walk to w) word now → word_at now (mark_at n) < (gate now n).len
+still_left n p to w word now h =
+    let a : AtWalk n p to w = h.knows in
+    let still : unmerged now n ≡ unmerged p.words n = index_still n p.words now _ _ h.lane (walk_at n w.key _ p w.place h.whole h.lane a.walk) h.does.change (leaves_words n p (at.Walk to w) word now h) in
+    let was : word_at p.words (mark_at n) ≡ a.mark = h.whole.represents.table.marks n h.lane.below ∙ a.works.mark_is in
+    let is : (gate p.words n).len ≡ ((store_in p).gates n).len = ap (λ (x : Gate). x.len) (h.whole.represents.table.gates n h.lane.below) in
+    omega (arith, still, was, is, mark_below n p a.mark h.whole a.works)
+
+pub full : (n : ℕ) (p : Pool) (place : MergePlace) (word : ℕ) (now : List ℕ) (counter : ℕ) → (store_in p).bucket_count + 1 < 2 ^ 64 → IsActing n p place word now → (step_in n word place).turn ≡ IndexFull counter → IsFull now n counter
 full n p at.Gate word now counter few h e = absurd (more_full counter e)
 full n p (at.Mark gate) word now counter few h e = absurd (marked_full gate word counter e)
 full n p (at.Directory mark) word now counter few h e = absurd (more_full counter e)
@@ -172,5 +186,6 @@ full n p (at.Key mark from to change) word now counter few h e = absurd (more_fu
 full n p (at.Walk to w) word now counter few h e =
     let low : IsLow w.place = walk_low n w.key _ p w.place h.knows.walk in
     let f : (word ≡ counter) × NeedsMore w.place word = walked_full to w (walk_left w.place) (NeedsMore w.place word) word counter (walk_step w word) (step_goes w.key w.place word low) e in
-    subst (IsFull now) f.0 (counter_by p w.key w.place word now h.whole few f.1 h.does)
+    let c : IsCounter now counter = subst (IsCounter now) f.0 (counter_by p w.key w.place word now h.whole few f.1 h.does) in
+    record { left = still_left n p to w word now h; least = c.least; found = c.found }
 full n p (at.Pass to) word now counter few h e = absurd (more_full counter e)

@@ -24,8 +24,8 @@ logs_stay n words mid now l h k = record {
 -- of another lane gate and mark stay
 merged_stays : (n k : ℕ) (mid now : List ℕ) (merged : Merged) → k < n → n < 256 → LeavesWords (n + 1) mid now → IsMerged mid (k + 1) merged → IsMerged now (k + 1) merged
 merged_stays n k mid now merged lt low h m = record {
-  gate = h.each (gate_at (k + 1)) (λ e. absurd (omega (arith, e, lt))) (λ e. absurd (omega (arith, e))) (λ b. absurd (omega (arith, b.0, lt, low))) ∙ m.gate;
-  mark = h.each (mark_at (k + 1)) (λ e. absurd (omega (arith, e, lt))) (λ e. absurd (omega (arith, e))) (λ b. absurd (omega (arith, b.0, lt, low))) ∙ m.mark;
+  gate_is = h.each (gate_at (k + 1)) (λ e. absurd (omega (arith, e, lt))) (λ e. absurd (omega (arith, e))) (λ b. absurd (omega (arith, b.0, lt, low))) ∙ m.gate_is;
+  mark_is = h.each (mark_at (k + 1)) (λ e. absurd (omega (arith, e, lt))) (λ e. absurd (omega (arith, e))) (λ b. absurd (omega (arith, b.0, lt, low))) ∙ m.mark_is;
   all = m.all;
 }
 

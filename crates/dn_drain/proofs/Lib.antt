@@ -7,4 +7,5 @@ pub mod Acting
 pub mod Draining
 pub mod Lanes
 pub mod Renewing
+pub mod Determined
 pub mod Playing

@@ -1,13 +1,11 @@
-use Rattle.std.proofs.Common.{ℕ, ◌+◌, ◌<◌, ◌≤◌, ◌^◌, ◌≡◌, ◌≢◌, inl, inr, List, [], ◌∷◌, ◌++◌, Option, Some, None, All, length, refl, sym, ◌∙◌, ap, subst, arith}
+use Rattle.std.proofs.Common.{ℕ, ◌+◌, ◌<◌, ◌≤◌, ◌^◌, ◌≡◌, ◌≢◌, inl, inr, List, [], ◌++◌, Option, Some, None, All, length, refl, sym, ◌∙◌, ap, subst, arith}
 use Rattle.std.specs.Prelude.{IsSome, Result, Ok, Err, OnOk, OnErr, IfOk}
 use Rattle.std.proofs.lemmas.Bool.{false≢true, cases_eq, cases_lt}
 use Rattle.std.proofs.lemmas.Option.{none-some}
-use Rattle.dn_word.specs.declared.positions.Position.{Position}
 use Rattle.dn_hist.specs.Calls.{key_of}
 use Rattle.dn_hist.specs.declared.calls.Call.{Call}
 use Rattle.dn_hist.specs.declared.calls.Call.TheVariants.{Get, Put, Delete}
 use Rattle.dn_hist.specs.declared.receipts.SessionView.{SessionView}
-use Rattle.dn_tend.specs.declared.tasks.Task.{Task}
 use Rattle.dn_monitor.specs.Heirs.{AreHeirs}
 use Rattle.dn_monitor.specs.Monitor.{Monitoring, IsOrder}
 use Rattle.dn_monitor.specs.declared.orders.Order.{Order}
@@ -15,7 +13,7 @@ use Rattle.dn_monitor.specs.declared.orders.Order.TheVariants.{Format, Takeover}
 use Rattle.dn_orders.specs.Knowing.{AreLanes}
 use Rattle.dn_orders.proofs.Takeovers.{heirs_are}
 use Rattle.dn_route.specs.SessionState.{view_of}
-use Rattle.dn_route.specs.CallersOrder.{Told, told_now}
+use Rattle.dn_route.specs.CallersOrder.{Told}
 use Rattle.dn_callers.specs.Callers.{Standing}
 use Rattle.dn_callers.specs.Sessions.{IsSession, IsUnderWay}
 use Rattle.dn_lane2.specs.Asked.{view_in}
@@ -26,18 +24,17 @@ use Rattle.dn_lane2.specs.declared.asked.Asked.{Asked}
 use Rattle.dn_lane2.specs.declared.asked.Asked.TheVariants as asked
 use Rattle.dn_lane2.specs.declared.modes.Mode.{Mode}
 use Rattle.dn_lane2.specs.declared.modes.Mode.TheVariants as mode
-use Rattle.dn_lanes.specs.Begun.{IsOwnTask}
 use Rattle.dn_lanes.specs.Calls.{IsCall}
 use Rattle.dn_machine.specs.State.{Machine}
-use Rattle.dn_machine.specs.Events.{Event, Asks, Tends, Orders, Adds, Numbers}
+use Rattle.dn_machine.specs.Events.{Event, Asks, Orders, Adds, Numbers}
 use Rattle.dn_machine.specs.Given.{IsGiven, IsOfSession, HasNoCall, IsFree}
 use Rattle.dn_machine.specs.Sound.{IsSound}
 use Rattle.dn_cluster.specs.State.{ClusterState, numbered}
 use Rattle.dn_cluster.specs.Machine.{machine_of, lane_in, merger_in, session_at, IsOpen, Runs}
 use Rattle.dn_cluster.specs.Asks.{refused_in, refused_by as refused_there}
-use Rattle.dn_cluster.specs.Does.{CanBeSound, Does, IsTold, Happens}
+use Rattle.dn_cluster.specs.Does.{CanBeSound, Does, Happens}
 use Rattle.dn_cluster.specs.declared.clusters.AddFault.{AddFault}
-use Rattle.dn_cluster.proofs.Given.{given_sound, first_view, told_sound}
+use Rattle.dn_cluster.proofs.Given.{given_sound, first_view}
 use Rattle.dn_cluster.proofs.Places.{no_place}
 
 -- What a play of the tests keeps: its cluster can be sound over the words of its pool.

@@ -1,4 +1,4 @@
-use Rattle.std.proofs.Common.{ℕ, zero, suc, ◌+◌, ◌≡◌, Bool, true, false, List, Option, Some, refl, sym, ◌∙◌, ap, subst}
+use Rattle.std.proofs.Common.{ℕ, zero, suc, ◌≡◌, Bool, true, false, List, Option, Some, sym, ◌∙◌, ap, subst}
 use Rattle.dn_merge.specs.Merge.{Merging, started, merge_next}
 use Rattle.dn_route.specs.CallersOrder.{Told}
 use Rattle.dn_callers.specs.Callers.{Standing}
@@ -12,11 +12,10 @@ use Rattle.dn_cluster.specs.Machine.{machine_of, IsMade}
 use Rattle.dn_cluster.proofs.Given.{given_sound}
 use Rattle.dn_drain.specs.All.{AreDrained, IsLaneFault, StaysSound}
 use Rattle.dn_drain.specs.Alone.{alone_in}
-use Rattle.dn_drain.specs.Drained.{IsDrained, IsCutOff, IsDrainFault, idle_of}
+use Rattle.dn_drain.specs.Drained.{IsCutOff, IsDrainFault}
 use Rattle.dn_drain.specs.declared.drains.DrainFault.{DrainFault}
 use Rattle.dn_drain.specs.declared.drains.DrainFault.TheVariants.{Pool, IndexFull}
 use Rattle.dn_drain.specs.declared.every.LaneFault.{LaneFault}
-use Rattle.dn_drain.specs.declared.drains.Merged.{Merged}
 use Rattle.dn_drain.proofs.Acting.{made_is}
 
 -- A merger is renewed after a fault.

@@ -2,7 +2,7 @@ use Rattle.std.specs.Prelude.{◌≡◌, ◌⊎◌, ◌<◌, ◌≤◌, ℕ, ◌
 use Rattle.dn_word.specs.Gate.{gate_of}
 use Rattle.dn_word.specs.Regions.{overflow_counter_at}
 use Rattle.dn_act.specs.Words.{word_at}
-use Rattle.dn_model.specs.Regions.{gate_at, mark_at}
+use Rattle.dn_model.specs.Regions.{gate, mark, gate_at, mark_at}
 use Rattle.dn_merge.specs.declared.mergers.MergeTurn.{MergeTurn}
 use Rattle.dn_merge.specs.declared.mergers.MergeTurn.TheVariants as turn
 use Rattle.dn_machine.specs.Events.{Merger, Fails}
@@ -42,18 +42,20 @@ IsDrainFault words c now d n (IndexFull counter) = IsDrained words c now d n (tu
 -- ---- what that says of the words
 -- these are the words of lane n's gate and mark, which name one length: all that the lane has sealed is merged
 pub record IsMerged (words : List ℕ) (n : ℕ) (merged : Merged) : Type 0 where
-  pub gate : word_at words (gate_at n) ≡ merged.gate
-  pub mark : word_at words (mark_at n) ≡ merged.mark
+  pub gate_is : word_at words (gate_at n) ≡ merged.gate
+  pub mark_is : word_at words (mark_at n) ≡ merged.mark
   pub all : (gate_of merged.gate).len ≡ merged.mark
 
--- All 4,096 overflow buckets are claimed: the counter is the word that the last action found, and may have raised by 1.
-pub record IsFull (words : List ℕ) (counter : ℕ) : Type 0 where
+-- All 4,096 overflow buckets are claimed: the counter is the word that the last action found, and may have raised by 1. The
+-- record at lane n's mark isn't merged.
+pub record IsFull (words : List ℕ) (n counter : ℕ) : Type 0 where
+  pub left : mark words n < (gate words n).len
   pub least : 4096 ≤ counter
   pub found : (word_at words overflow_counter_at ≡ counter) ⊎ (word_at words overflow_counter_at ≡ counter + 1)
 
-abbrev pub IsFullFault : List ℕ → DrainFault → Type 0
-IsFullFault words Pool = Unit {0}
-IsFullFault words (IndexFull counter) = IsFull words counter
+abbrev pub IsFullFault : List ℕ → ℕ → DrainFault → Type 0
+IsFullFault words n Pool = Unit {0}
+IsFullFault words n (IndexFull counter) = IsFull words n counter
 
 -- the count of failed accesses rose exactly at a fault of the pool
 abbrev pub CountsPool : ℕ → ℕ → DrainFault → Type 0

@@ -35,7 +35,7 @@ pub enum DrainFault {
 /// so by a gate which was loaded in this call. A turn that is under way goes on. Nobody else acts meanwhile, so words and
 /// answer are determined by the words before and by where that merger is. It takes no memory.
 ///
-/// `IndexFull` comes exactly where an action of the merger answers so, and the record at the mark isn't merged then. `Pool`
+/// `IndexFull` comes exactly where an action of the merger answers so; the record at the mark isn't merged then. `Pool`
 /// comes exactly where an access failed; the cluster is then as before that action, which was done or not done, so the
 /// merger is to be renewed before anybody acts.
 ///
@@ -49,7 +49,7 @@ pub fn drain<M: Memory>(cluster: &mut Cluster, mem: &mut M, lane: u8) -> Result<
     ensures merged { IfOk result (IsMerged (M.words mem.new) lane) }
     ensures fault { IfErr result (IsDrainFault (M.words mem.old) cluster.old
         (M.words mem.new) cluster.new lane) }
-    ensures full { IfErr result (IsFullFault (M.words mem.new)) }
+    ensures full { IfErr result (IsFullFault (M.words mem.new) lane) }
     ensures words { LeavesWords lane (M.words mem.old) (M.words mem.new) }
     ensures others { LeavesOthers lane cluster.old cluster.new }
     ensures segments { cluster.new.segments ≡ cluster.old.segments }
@@ -57,8 +57,9 @@ pub fn drain<M: Memory>(cluster: &mut Cluster, mem: &mut M, lane: u8) -> Result<
     ensures count { OnOk result (M.faults mem.new ≡ M.faults mem.old) }
     ensures faults { IfErr result (CountsPool (M.faults mem.old) (M.faults mem.new)) }
 {
-    // An answer to the first action that all is merged would be by a gate that was loaded before.
-    if let Err(fault) = step(cluster, mem, lane) {
+    // Were all merged by the first action, it would be by a gate that was loaded before.
+    let first = step(cluster, mem, lane);
+    if let Err(fault) = first {
         return Err(fault);
     }
     loop {
@@ -84,7 +85,7 @@ fn step<M: Memory>(
         (left_by lane (alone_in (M.words mem.new) cluster.new lane))) }
     ensures fault { IfErr result (IsStepFault (M.words mem.old) cluster.old
         (M.words mem.new) cluster.new lane) }
-    ensures full { IfErr result (IsFullFault (M.words mem.new)) }
+    ensures full { IfErr result (IsFullFault (M.words mem.new) lane) }
     ensures words { LeavesWords lane (M.words mem.old) (M.words mem.new) }
     ensures others { LeavesOthers lane cluster.old cluster.new }
     ensures segments { cluster.new.segments ≡ cluster.old.segments }

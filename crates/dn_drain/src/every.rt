@@ -40,7 +40,7 @@ pub fn drain_all<M: Memory>(
         (M.words mem.new) cluster.new) }
     ensures fault { IfErr result (IsLaneFault (M.words mem.old) cluster.old
         (M.words mem.new) cluster.new) }
-    ensures full { IfErr result (λ at. IsFullFault (M.words mem.new) at.fault) }
+    ensures full { IfErr result (λ at. IsFullFault (M.words mem.new) at.lane at.fault) }
     ensures words { LeavesLogs (M.words mem.old) (M.words mem.new) }
     ensures actors { LeavesActors cluster.old cluster.new }
     ensures segments { cluster.new.segments ≡ cluster.old.segments }

@@ -158,3 +158,33 @@ fn all_lanes(rt: HostRuntime) -> Result<(), Fail> {
     assert_eq!(rt; ended, [after(1, 1), after(2, 1)]);
     Ok(())
 }
+
+/// Puts on the keys from 1 on, each time followed by a drain after so many, until that ends with a fault.
+fn fill(rt: &impl Abort, play: &mut Play) -> Result<DrainFault, Fail> {
+    for key in 1..=25000u64 {
+        play.put(rt, 1, key)?;
+        if key % 500 == 0
+            && let Err(fault) = play.drain(rt, 1)
+        {
+            return Ok(fault);
+        }
+    }
+    panic!(rt; "the index is full");
+}
+
+/// Five keys for each bucket of the table take all 4,096 further ones.
+#[test]
+fn a_full_index(rt: HostRuntime) -> Result<(), Fail> {
+    let mut play = Play::new(&rt, rt.alloc(), None)?;
+    play.lane(&rt, 1, 0);
+    for slot in 1..64 {
+        play.own(&rt, 1, slot);
+    }
+    let full = DrainFault::IndexFull { counter: 4096 };
+    assert_eq!(rt; fill(&rt, &mut play)?, full);
+    assert_eq!(rt; play.word(&rt, 3), 4096);
+    assert!(rt; play.word(&rt, 129) != play.word(&rt, 65) % 0x100000000);
+    assert_eq!(rt; play.drain(&rt, 1), Err(full));
+    assert_eq!(rt; play.word(&rt, 3), 4096);
+    Ok(())
+}

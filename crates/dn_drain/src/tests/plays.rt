@@ -29,7 +29,7 @@ use std::process::Abort;
 use std::test::Fail;
 
 /// How many segments the pool has.
-const SEGMENTS: u32 = 8;
+const SEGMENTS: u32 = 80;
 
 /// A cluster that can be sound over the words of its pool, and how many accesses were made.
 #[derive(Drop)]
@@ -227,9 +227,8 @@ impl Play {
         self.order(rt, Order::Move { slot, to }, &[]);
     }
 
-    /// Makes the next lane, which owns a slot.
-    pub fn lane(&mut self, rt: &impl Abort, lane: u8, slot: u8) {
-        self.add_lane(rt, lane);
+    /// The monitor makes a lane the owner of a slot.
+    pub fn own(&mut self, rt: &impl Abort, lane: u8, slot: u8) {
         self.grant(rt, slot, lane);
         for _ in 0..10 {
             if is_free(&self.cluster) {
@@ -238,6 +237,12 @@ impl Play {
             self.act(rt, Actor::Monitor);
         }
         panic!(rt; "the slot is granted");
+    }
+
+    /// Makes the next lane, which owns a slot.
+    pub fn lane(&mut self, rt: &impl Abort, lane: u8, slot: u8) {
+        self.add_lane(rt, lane);
+        self.own(rt, lane, slot);
     }
 
     /// Gives a lane that runs the next call of a session that has none.
