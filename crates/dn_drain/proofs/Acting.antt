@@ -24,7 +24,8 @@ use Rattle.dn_cluster.specs.declared.actors.Actor.TheVariants as actor
 use Rattle.dn_cluster.proofs.Places.{HasNode, has_node, merger_is}
 use Rattle.dn_drain.specs.Acted.{HasActed, LeavesActors, LeavesOthers}
 use Rattle.dn_drain.specs.Alone.{Alone, merger_or, alone_in, answer_by, step_by}
-use Rattle.dn_drain.specs.Drained.{IsFull, IsStepped}
+use Rattle.dn_drain.specs.Drained.{IsFull}
+use Rattle.dn_drain.specs.Stepped.{IsStepped}
 use Rattle.dn_drain.specs.Leaves.{LeavesWords}
 use Rattle.dn_drain.specs.Left.{left_by}
 use Rattle.dn_drain.proofs.Falling.{falls, full}

@@ -10,7 +10,8 @@ use Rattle.dn_cluster.specs.Does.{CanBeSound, FailsAs}
 use Rattle.dn_cluster.specs.Machine.{machine_of, IsMade}
 use Rattle.dn_drain.specs.Acted.{IsActed, HasActed}
 use Rattle.dn_drain.specs.Alone.{Alone, alone_in, answer_by, step_by, run_by}
-use Rattle.dn_drain.specs.Drained.{IsDrained, IsCutOff, IsDrainFault, IsMerged, turn_in, IsStepped, IsStepFault}
+use Rattle.dn_drain.specs.Drained.{IsDrained, IsCutOff, IsDrainFault, IsMerged}
+use Rattle.dn_drain.specs.Stepped.{turn_in, IsStepped, IsStepFault}
 use Rattle.dn_drain.specs.Ends.{HasLoaded, EndsBy, EndsAt, GoesOn}
 use Rattle.dn_drain.specs.declared.drains.DrainFault.{DrainFault}
 use Rattle.dn_drain.specs.declared.drains.DrainFault.TheVariants as fault

@@ -1,4 +1,4 @@
-use Rattle.std.specs.Prelude.{◌≡◌, ◌⊎◌, ◌<◌, ◌≤◌, ℕ, ◌+◌, List, Option, Some, None}
+use Rattle.std.specs.Prelude.{◌≡◌, ◌⊎◌, ◌<◌, ◌≤◌, ℕ, ◌+◌, List}
 use Rattle.dn_word.specs.Gate.{gate_of}
 use Rattle.dn_word.specs.Regions.{overflow_counter_at}
 use Rattle.dn_act.specs.Words.{word_at}
@@ -8,7 +8,7 @@ use Rattle.dn_merge.specs.declared.mergers.MergeTurn.TheVariants as turn
 use Rattle.dn_machine.specs.Events.{Merger, Fails}
 use Rattle.dn_cluster.specs.State.{ClusterState}
 use Rattle.dn_cluster.specs.Does.{FailsAs}
-use Rattle.dn_drain.specs.Alone.{alone_in, answer_by, step_by}
+use Rattle.dn_drain.specs.Alone.{alone_in}
 use Rattle.dn_drain.specs.Ends.{GoesOn, Drains}
 use Rattle.dn_drain.specs.Acted.{HasActed}
 use Rattle.dn_drain.specs.declared.drains.Merged.{Merged}
@@ -61,22 +61,3 @@ IsFullFault words n (IndexFull counter) = IsFull words n counter
 abbrev pub CountsPool : ℕ → ℕ → DrainFault → Type 0
 CountsPool old new Pool = old < new
 CountsPool old new (IndexFull counter) = new ≡ old
-
--- ---- one action
-abbrev pub turn_in : Option Merged → MergeTurn
-turn_in None = turn.More
-turn_in (Some merged) = idle_of merged
-
-pub record IsStepped (words : List ℕ) (c : ClusterState) (now : List ℕ) (d : ClusterState) (n : ℕ) (answer : MergeTurn) : Type 0 where
-  pub answer_is : answer_by (alone_in words c n) ≡ answer
-  pub after : alone_in now d n ≡ step_by (alone_in words c n)
-  pub acted : HasActed words c now d n 1
-
-abbrev pub IsStepFault : List ℕ → ClusterState → List ℕ → ClusterState → ℕ → DrainFault → Type 0
-IsStepFault words c now d n Pool = (d ≡ c) × FailsAs words c now (Fails (Merger n))
-IsStepFault words c now d n (IndexFull counter) = IsStepped words c now d n (turn.IndexFull counter)
-
--- an action behind which the turn or the next one goes on leaves fewer
-abbrev pub Falls : ℕ → ℕ → Option Merged → Type 0
-Falls old new None = new < old
-Falls old new (Some merged) = Unit {0}

@@ -4,4 +4,5 @@ pub mod Left
 pub mod Leaves
 pub mod Acted
 pub mod Drained
+pub mod Stepped
 pub mod All

@@ -1,11 +1,12 @@
-ghost use Rattle.std.specs.Prelude.{◌≡◌, ◌<◌, Some, None, length, IfOk, IfErr, OnOk, IfSome};
+ghost use Rattle.std.specs.Prelude.{◌≡◌, length, IfOk, IfErr, OnOk};
 ghost use Rattle.dn_cluster.specs.Machine.{IsMade};
 ghost use Rattle.dn_cluster.specs.Does.{CanBeSound};
 ghost use Rattle.dn_drain.specs.Alone.{alone_in};
 ghost use Rattle.dn_drain.specs.Left.{left_by};
 ghost use Rattle.dn_drain.specs.Leaves.{LeavesWords};
 ghost use Rattle.dn_drain.specs.Acted.{LeavesOthers};
-ghost use Rattle.dn_drain.specs.Drained.{IsDrained, IsDrainFault, idle_of, IsMerged, IsFullFault, CountsPool, turn_in, IsStepped, IsStepFault, Falls};
+ghost use Rattle.dn_drain.specs.Drained.{IsDrained, IsDrainFault, idle_of, IsMerged, IsFullFault, CountsPool};
+ghost use Rattle.dn_drain.specs.Stepped.{turn_in, IsStepped, IsStepFault, Falls};
 
 use dn_act::Memory;
 use dn_cluster::{Acted, Actor, Cluster};

@@ -1,6 +1,6 @@
 use Rattle.std.proofs.Common.{suc, Option, ◌∙◌, subst, arith}
 use Rattle.dn_cluster.specs.Machine.{IsMade}
-use Rattle.dn_drain.specs.Drained.{turn_in, IsStepped}
+use Rattle.dn_drain.specs.Stepped.{turn_in, IsStepped}
 use Rattle.dn_drain.specs.declared.drains.Merged.{Merged}
 use Rattle.dn_drain.proofs.Acting.{others_stay}
 use Rattle.dn_drain.proofs.Draining.{begins, begun, further, fault_so, drained_idle, merged, still_sound}

@@ -4,7 +4,7 @@ use Rattle.dn_merge.specs.declared.mergers.MergeTurn.TheVariants.{More, Idle, In
 use Rattle.dn_cluster.specs.Acting.{failed}
 use Rattle.dn_cluster.specs.declared.actors.Acted.{Acted}
 use Rattle.dn_cluster.specs.declared.actors.Acted.TheVariants as acted
-use Rattle.dn_drain.specs.Drained.{IsStepped}
+use Rattle.dn_drain.specs.Stepped.{IsStepped}
 use Rattle.dn_drain.proofs.Acting.{HasCalled, stepped, leaves_others, step_leaves, step_falls, step_full, fail_leaves, same_others, IsOfMerger, of_merger_alone}
 use Rattle.dn_drain.proofs.drains.step.Goals as goal
 
