@@ -9,3 +9,4 @@ pub mod Stepping
 pub mod Others
 pub mod Giving
 pub mod Events
+pub mod History

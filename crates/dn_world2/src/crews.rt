@@ -147,6 +147,7 @@ impl Crew {
         requires count { (session_at self.old.cluster session).number < 2 ^ 32 - 1 }
         ensures came { (words : List ℕ) → Carries words self.old words self.new (bare result)
             (λ w. start w session lane call) }
+        ensures done { has_failed result ≡ false }
     {
         if !self.may_name(lane) {
             return Outcome::NoLane;

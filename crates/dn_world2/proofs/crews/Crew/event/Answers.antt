@@ -60,14 +60,14 @@ returns-clause-comes g c fine =
         (happens_by words x words w.give-outcome.new.self (bare w.give-outcome.result) (event.Give w.in-Give.order) (w.give-outcome.ensures.came words).heirs
         (λ told receipts. ((subst (MayBeGivenTo x) w.in-Give.is c.requires.event).0, given_takes words x w.give-outcome.new.self w.give-outcome.result w.in-Give.order (w.give-outcome.ensures.came words) told receipts))
         (comes_moved words x w.give-outcome.new.self (bare w.give-outcome.result) (λ z. does z (event.Give w.in-Give.order) (w.give-outcome.ensures.came words).heirs) (w.give-outcome.ensures.came words).is))
-      | in-Queue+in_ok-outcome-in-Queue w ↦ happens_as words x now words c.match-event.self w.queue.new.self c.bare.result (bare w.in_ok-outcome-in-Queue.field-0) c.args.event (event.Queue w.in-Queue.lane w.in-Queue.task)
+      | in-Queue+in_ok-outcome-in-Queue w ↦ happens_as words x now words c.match-event.self w.queue.new.self c.bare.result (bare w.in_ok-outcome-in-Queue.outcome) c.args.event (event.Queue w.in-Queue.lane w.in-Queue.task)
         (record { words = ap g.M.Memory.words w.mem-is; crew = w.self-is; told = c.bare.ensures ∙ ap bare w.outcome-is; event_is = w.in-Queue.is })
-        (happens_by words x words w.queue.new.self (bare w.in_ok-outcome-in-Queue.field-0) (event.Queue w.in-Queue.lane w.in-Queue.task) [] (λ told receipts. (subst (MayBeGivenTo x) w.in-Queue.is c.requires.event))
-        (comes_moved words x w.queue.new.self (bare w.in_ok-outcome-in-Queue.field-0) (λ z. does z (event.Queue w.in-Queue.lane w.in-Queue.task) []) (w.in_ok-outcome-in-Queue.ensures.came words)))
-      | in-Add+in_ok-outcome-in-Add w ↦ happens_as words x now words c.match-event.self w.add.new.self c.bare.result (bare w.in_ok-outcome-in-Add.field-0) c.args.event (event.Add)
+        (happens_by words x words w.queue.new.self (bare w.in_ok-outcome-in-Queue.outcome) (event.Queue w.in-Queue.lane w.in-Queue.task) [] (λ told receipts. (subst (MayBeGivenTo x) w.in-Queue.is c.requires.event))
+        (comes_moved words x w.queue.new.self (bare w.in_ok-outcome-in-Queue.outcome) (λ z. does z (event.Queue w.in-Queue.lane w.in-Queue.task) []) (w.in_ok-outcome-in-Queue.ensures.came words)))
+      | in-Add+in_ok-outcome-in-Add w ↦ happens_as words x now words c.match-event.self w.add.new.self c.bare.result (bare w.in_ok-outcome-in-Add.outcome) c.args.event (event.Add)
         (record { words = ap g.M.Memory.words w.mem-is; crew = w.self-is; told = c.bare.ensures ∙ ap bare w.outcome-is; event_is = w.in-Add.is })
-        (happens_by words x words w.add.new.self (bare w.in_ok-outcome-in-Add.field-0) (event.Add) [] (λ told receipts. tt)
-        (comes_moved words x w.add.new.self (bare w.in_ok-outcome-in-Add.field-0) (λ z. does z (event.Add) []) (w.in_ok-outcome-in-Add.ensures.came words)))
+        (happens_by words x words w.add.new.self (bare w.in_ok-outcome-in-Add.outcome) (event.Add) [] (λ told receipts. tt)
+        (comes_moved words x w.add.new.self (bare w.in_ok-outcome-in-Add.outcome) (λ z. does z (event.Add) []) (w.in_ok-outcome-in-Add.ensures.came words)))
       | in-Tell w ↦ happens_as words x now words c.match-event.self w.tell-outcome.new.self c.bare.result (bare w.tell-outcome.result) c.args.event (event.Tell w.in-Tell.from w.in-Tell.to)
         (record { words = ap g.M.Memory.words w.mem-is; crew = w.self-is; told = c.bare.ensures ∙ ap bare w.outcome-is; event_is = w.in-Tell.is })
         (happens_by words x words w.tell-outcome.new.self (bare w.tell-outcome.result) (event.Tell w.in-Tell.from w.in-Tell.to) [] (λ told receipts. (subst (MayBeGivenTo x) w.in-Tell.is c.requires.event))
@@ -82,7 +82,7 @@ returns-clause-count g c = elim c.match-event.branch [
       | in-Monitor w ↦ counts_as c.bare.result.outcome w.monitor-outcome.result _ _ (g.M.Memory.faults w.monitor-outcome.new.mem) (ap (λ (z : Came). z.outcome) c.bare.ensures ∙ w.outcome-is) (ap g.M.Memory.faults w.mem-is) w.monitor-outcome.ensures.count
       | in-Refresh w ↦ counts_as c.bare.result.outcome w.refresh-outcome.result _ _ (g.M.Memory.faults w.refresh-outcome.new.mem) (ap (λ (z : Came). z.outcome) c.bare.ensures ∙ w.outcome-is) (ap g.M.Memory.faults w.mem-is) w.refresh-outcome.ensures.count
       | in-Give w ↦ counts_as c.bare.result.outcome w.give-outcome.result _ _ (g.M.Memory.faults c.args.mem.now) (ap (λ (z : Came). z.outcome) c.bare.ensures ∙ w.outcome-is) (ap g.M.Memory.faults w.mem-is) (counts_done w.give-outcome.result _ _ w.give-outcome.ensures.done refl)
-      | in-Queue+in_ok-outcome-in-Queue w ↦ counts_as c.bare.result.outcome w.in_ok-outcome-in-Queue.field-0 _ _ (g.M.Memory.faults c.args.mem.now) (ap (λ (z : Came). z.outcome) c.bare.ensures ∙ w.outcome-is) (ap g.M.Memory.faults w.mem-is) (counts_done w.in_ok-outcome-in-Queue.field-0 _ _ w.in_ok-outcome-in-Queue.ensures.done refl)
-      | in-Add+in_ok-outcome-in-Add w ↦ counts_as c.bare.result.outcome w.in_ok-outcome-in-Add.field-0 _ _ (g.M.Memory.faults c.args.mem.now) (ap (λ (z : Came). z.outcome) c.bare.ensures ∙ w.outcome-is) (ap g.M.Memory.faults w.mem-is) (counts_done w.in_ok-outcome-in-Add.field-0 _ _ w.in_ok-outcome-in-Add.ensures.done refl)
+      | in-Queue+in_ok-outcome-in-Queue w ↦ counts_as c.bare.result.outcome w.in_ok-outcome-in-Queue.outcome _ _ (g.M.Memory.faults c.args.mem.now) (ap (λ (z : Came). z.outcome) c.bare.ensures ∙ w.outcome-is) (ap g.M.Memory.faults w.mem-is) (counts_done w.in_ok-outcome-in-Queue.outcome _ _ w.in_ok-outcome-in-Queue.ensures.done refl)
+      | in-Add+in_ok-outcome-in-Add w ↦ counts_as c.bare.result.outcome w.in_ok-outcome-in-Add.outcome _ _ (g.M.Memory.faults c.args.mem.now) (ap (λ (z : Came). z.outcome) c.bare.ensures ∙ w.outcome-is) (ap g.M.Memory.faults w.mem-is) (counts_done w.in_ok-outcome-in-Add.outcome _ _ w.in_ok-outcome-in-Add.ensures.done refl)
       | in-Tell w ↦ counts_as c.bare.result.outcome w.tell-outcome.result _ _ (g.M.Memory.faults c.args.mem.now) (ap (λ (z : Came). z.outcome) c.bare.ensures ∙ w.outcome-is) (ap g.M.Memory.faults w.mem-is) (counts_done w.tell-outcome.result _ _ w.tell-outcome.ensures.done refl)
     ]

@@ -23,6 +23,7 @@ pub returns-then-not-may_name : goal.returns-then-not-may_name
 returns-then-not-may_name c = record {
   came = λ words. stays words c.args.self.now NoLane (λ w. start w c.args.session c.args.lane c.args.call)
   (λ told receipts. named_badly (world_of words c.args.self.now told receipts) c.args.session c.args.lane c.args.call (sym (c.may_name.ensures words told receipts) ∙ c.if-not-may_name.true));
+  done = refl;
 }
 
 pub returns-then-is_some : goal.returns-then-is_some
@@ -32,6 +33,7 @@ returns-then-is_some c = record {
   let there : is_some (call_of c.args.self.now.waiting c.args.session) ≡ true =
   ap (λ (z : CrewState). is_some (call_of z.waiting c.args.session)) (sym c.self.view_is) ∙ sym (ap is_some c.call.ensures) ∙ copied c.call.result ∙ sym c.is_some.ensures ∙ c.if-is_some.true in
   busy (world_of words c.args.self.now told receipts) c.args.session c.args.lane c.args.call (sym (c.may_name.ensures words told receipts) ∙ c.if-not-may_name.false) there);
+  done = refl;
 }
 
 pub returns-then-is_closed : goal.returns-then-is_closed
@@ -43,6 +45,7 @@ returns-then-is_closed c =
       (λ told receipts. closed_now (world_of words c.args.self.now told receipts) c.args.session c.args.lane c.args.call (sym (c.may_name.ensures words told receipts) ∙ c.if-not-may_name.false)
       (subst (λ (z : CrewState). call_of z.waiting c.args.session ≡ None) c.self.view_is free)
       (subst (λ (z : CrewState). closed_in (numbered z.cluster.clients c.args.session) ≡ true) c.self.view_is (sym c.is_closed.ensures ∙ c.if-is_closed.true)));
+      done = refl;
     }
 
 pub start-course-requires-clause-session : goal.start-course-requires-clause-session
@@ -89,4 +92,5 @@ returns c =
         (numbered_one x a y s c.args.lane c.args.call c.number-view.result c.lane_or_none-route.result c.start-course.result h words told receipts
         (subst (λ (z : CrewState). may_name (world_of words z told receipts) c.args.lane ≡ true) (sym c.self.view_is) (sym (c.may_name.ensures words told receipts) ∙ c.if-not-may_name.false)) free (sym c.is_closed.ensures ∙ c.if-is_closed.false));
       });
+      done = refl;
     }
