@@ -73,7 +73,7 @@ pub turns : (words : List ℕ) (x y : CrewState) (outcome : Outcome) (f : World 
     → ((told : List Told) (receipts : List Standing) → f (world_of words x told receipts) ≡ done (g (world_of words x told receipts)) outcome) → Carries words x words y (bare outcome) f
 turns words x y outcome f g by h = record {
   is = λ told receipts sound. no_receipt words x words y outcome f told receipts told
-  (h told receipts ∙ ap (λ (w : World). done w outcome) (sym (by.is words told receipts)));
+      (h told receipts ∙ ap (λ (w : World). done w outcome) (sym (by.is words told receipts)));
 }
 
 -- ---- one change and then another
@@ -119,5 +119,5 @@ pub turns_so : (words : List ℕ) (x y : CrewState) (outcome : Outcome) (f : Wor
     → ((told : List Told) (receipts : List Standing) → f (world_of words x told receipts) ≡ done (g (world_of words x told receipts)) outcome) → Moves words x words y (bare outcome) f
 turns_so words x y outcome f g by h = record {
   is = λ told receipts. no_receipt words x words y outcome f told receipts told
-  (h told receipts ∙ ap (λ (w : World). done w outcome) (sym (by.is words told receipts)));
+      (h told receipts ∙ ap (λ (w : World). done w outcome) (sym (by.is words told receipts)));
 }

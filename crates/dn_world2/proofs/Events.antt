@@ -1,12 +1,12 @@
-use Rattle.std.proofs.Common.{ℕ, ◌≡◌, ◌<◌, false, List, refl, sym, ◌∙◌, ap, subst}
+use Rattle.std.proofs.Common.{ℕ, ◌≡◌, List, sym, ◌∙◌, ap, subst}
 use Rattle.dn_route.specs.CallersOrder.{Told}
 use Rattle.dn_callers.specs.Callers.{Standing}
 use Rattle.dn_outcomes.specs.Does.{does}
-use Rattle.dn_outcomes.specs.Sound.{IsWorld, MayHappen}
+use Rattle.dn_outcomes.specs.Sound.{MayHappen}
 use Rattle.dn_outcomes.specs.declared.events.Event.{Event}
 use Rattle.dn_outcomes.specs.declared.outcomes.Outcome.{Outcome}
 use Rattle.dn_outcomes.specs.State.{World, Done}
-use Rattle.dn_world2.specs.Comes.{Moves, Carries, Comes, CountsFault, has_failed}
+use Rattle.dn_world2.specs.Comes.{Moves, Comes, CountsFault}
 use Rattle.std.specs.Option.{is_some}
 use Rattle.dn_monitor.specs.Monitor.{Monitoring}
 use Rattle.dn_monitor.specs.declared.orders.Order.{Order}

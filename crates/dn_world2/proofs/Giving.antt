@@ -1,4 +1,4 @@
-use Rattle.std.proofs.Common.{ℕ, ◌≡◌, ◌≤◌, ◌<◌, ◌+◌, ◌++◌, ◌∷◌, [], nat_lt, length, Bool, true, false, List, Option, Some, None, Bor, All, refl, sym, ◌∙◌, ap, subst, arith}
+use Rattle.std.proofs.Common.{ℕ, ◌≡◌, ◌≤◌, ◌<◌, ◌+◌, ◌++◌, ◌∷◌, [], nat_lt, length, Bool, true, false, List, Option, Some, None, Bor, All, refl, sym, ◌∙◌, ap, arith}
 use Rattle.std.specs.Option.{is_some, option_copied}
 use Rattle.std.specs.Prelude.{IsSome}
 use Rattle.dn_monitor.specs.Heirs.{AreHeirs}
@@ -18,8 +18,8 @@ use Rattle.dn_cluster.specs.State.{ClusterState, numbered}
 use Rattle.dn_waiting.specs.Turns.{tasked}
 use Rattle.dn_outcomes.specs.Does.{queues, adds, adds_lane, tells, tells_unless}
 use Rattle.dn_outcomes.specs.Orders.{may_order, gives_beside, give}
-use Rattle.dn_outcomes.specs.Sound.{IsTake, AreLive, IsWorld}
-use Rattle.dn_outcomes.specs.State.{World, Done, done, with_event, with_waiting}
+use Rattle.dn_outcomes.specs.Sound.{IsTake, AreLive}
+use Rattle.dn_outcomes.specs.State.{World, done, with_event, with_waiting}
 use Rattle.dn_outcomes.specs.declared.outcomes.Outcome.TheVariants.{Nothing, Acted, Added, LanesFull, MonitorBusy, NoLane}
 use Rattle.dn_world2.specs.Comes.{Moves, bare}
 use Rattle.dn_world2.specs.State.{CrewState, world_of}
@@ -99,10 +99,10 @@ adds_so x y n h words told receipts = same_world _ _ (record {
 pub added : (words : List ℕ) (x y : CrewState) (n : ℕ) → IsAdded x y n → Moves words x words y (bare (Added n)) adds
 added words x y n h = record {
   is = λ told receipts.
-    let w : World = world_of words x told receipts in
-    no_receipt words x words y (Added n) adds told receipts told
-    (where_true (nat_lt (length x.cluster.nodes) 63) (adds_lane w (length x.cluster.nodes + 1)) (done w LanesFull) (lt-ltb (length x.cluster.nodes) 63 h.room)
-    ∙ ap (λ (k : ℕ). adds_lane w k) (sym h.number) ∙ ap (λ (z : World). done z (Added n)) (sym (adds_so x y n h words told receipts)));
+      let w : World = world_of words x told receipts in
+      no_receipt words x words y (Added n) adds told receipts told
+      (where_true (nat_lt (length x.cluster.nodes) 63) (adds_lane w (length x.cluster.nodes + 1)) (done w LanesFull) (lt-ltb (length x.cluster.nodes) 63 h.room)
+      ∙ ap (λ (k : ℕ). adds_lane w k) (sym h.number) ∙ ap (λ (z : World). done z (Added n)) (sym (adds_so x y n h words told receipts)));
 }
 
 pub added_none : (w : World) → w.made ≡ 63 → adds w ≡ done w LanesFull
@@ -113,17 +113,17 @@ pub told_so : (words : List ℕ) (x : CrewState) (k : ClusterState) (s t : ℕ) 
     → position ≡ (session_at x.cluster s).last → closed_in (numbered x.cluster.clients t) ≡ false → Moves words x words (record x { cluster = k }) (bare Acted) (λ w. tells w s t)
 told_so words x k s t position h segments lanes at unclosed = record {
   is = λ told receipts.
-    let w : World = world_of words x told receipts in
-    let heard : List Told = told ++ told_now (session_at x.cluster t) position ∷ [] in
-    let e : world_of words (record x { cluster = k }) heard receipts ≡ with_event w (Tells t position) = same_world _ _ (record {
-      segments = segments;
-      made = lanes;
-      machine = h.is words told receipts;
-      waiting = refl;
-      live = refl;
-    }) in
-    no_receipt words x words (record x { cluster = k }) Acted (λ z. tells z s t) told receipts heard
-    (ap (λ (b : Bool). tells_unless w s t b) unclosed ∙ ap (λ (p : Position). done (with_event w (Tells t p)) Acted) (sym at) ∙ ap (λ (z : World). done z Acted) (sym e));
+      let w : World = world_of words x told receipts in
+      let heard : List Told = told ++ told_now (session_at x.cluster t) position ∷ [] in
+      let e : world_of words (record x { cluster = k }) heard receipts ≡ with_event w (Tells t position) = same_world _ _ (record {
+        segments = segments;
+        made = lanes;
+        machine = h.is words told receipts;
+        waiting = refl;
+        live = refl;
+      }) in
+      no_receipt words x words (record x { cluster = k }) Acted (λ z. tells z s t) told receipts heard
+      (ap (λ (b : Bool). tells_unless w s t b) unclosed ∙ ap (λ (p : Position). done (with_event w (Tells t p)) Acted) (sym at) ∙ ap (λ (z : World). done z Acted) (sym e));
 }
 
 pub told_none : (w : World) (s t : ℕ) → w.machine.callers.closed t ≡ true → tells w s t ≡ done w Acted

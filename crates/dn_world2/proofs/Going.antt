@@ -13,6 +13,6 @@ use Rattle.dn_world2.proofs.Changes.{IsClustered, clustered}
 pub goes : (x y : CrewState) (s slot : ℕ) (course : Course) → course ≡ Load → slot ≡ slot_at (call_of x.waiting s) → IsClustered x y (Loads s slot) → Turns x y (λ w. goes_on w s course)
 goes x y s slot course load at h = record {
   is = λ words told receipts.
-    let w : World = world_of words x told receipts in
-    (clustered x y (Loads s slot) h).is words told receipts ∙ ap (λ (k : ℕ). with_event w (Loads s k)) at ∙ sym (ap (λ (c : Course). goes_on w s c) load);
+      let w : World = world_of words x told receipts in
+      (clustered x y (Loads s slot) h).is words told receipts ∙ ap (λ (k : ℕ). with_event w (Loads s k)) at ∙ sym (ap (λ (c : Course). goes_on w s c) load);
 }

@@ -1,15 +1,14 @@
-use Rattle.std.proofs.Common.{ℕ, ◌≡◌, ◌++◌, ◌∷◌, [], List, Option, Some, None, map, true, refl, sym, ◌∙◌, ap, subst}
+use Rattle.std.proofs.Common.{ℕ, ◌≡◌, ◌++◌, ◌∷◌, [], List, Option, Some, None, map, true, sym, ◌∙◌, ap}
 use Rattle.std.proofs.lemmas.List.{append-nil, map-append}
 use Rattle.dn_hist.specs.declared.receipts.Receipt.{Receipt}
 use Rattle.dn_callers.specs.Callers.{Standing}
 use Rattle.dn_outcomes.specs.Does.{does}
 use Rattle.dn_outcomes.specs.declared.events.Event.{Event}
-use Rattle.dn_outcomes.specs.declared.outcomes.Outcome.{Outcome}
 use Rattle.dn_outcomes.proofs.Kept.{kept}
 use Rattle.dn_world2.specs.Comes.{joining}
 use Rattle.dn_world2.specs.Happens.{HappensTo, Happens}
 use Rattle.dn_world2.specs.Inside.{stands_as}
-use Rattle.dn_world2.specs.State.{CrewState, WorldState, world_of}
+use Rattle.dn_world2.specs.State.{CrewState, world_of}
 use Rattle.dn_world2.specs.declared.crews.Came.{Came}
 use Rattle.dn_world2.specs.declared.worlds.Standing.{Standing as Kept}
 
@@ -20,13 +19,13 @@ pub world_happens : (words : List ℕ) (x : CrewState) (now : List ℕ) (y : Cre
 world_happens words x now y came e h now_stands joined done = record {
   heirs = done.heirs;
   is = λ told sound.
-    let it = done.is told h sound in
-    record {
-      may = it.may;
-      world = it.is.world ∙ ap (λ (rs : List Standing). world_of now y (does (world_of words x told h) e done.heirs).world.machine.callers.told rs) (sym joined);
-      outcome_is = it.is.outcome;
-      sound = kept (world_of words x told h) e done.heirs sound it.may;
-    };
+      let it = done.is told h sound in
+      record {
+        may = it.may;
+        world = it.is.world ∙ ap (λ (rs : List Standing). world_of now y (does (world_of words x told h) e done.heirs).world.machine.callers.told rs) (sym joined);
+        outcome_is = it.is.outcome;
+        sound = kept (world_of words x told h) e done.heirs sound it.may;
+      };
 }
 
 -- the receipts after one came to stand, or none

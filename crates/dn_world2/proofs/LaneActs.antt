@@ -1,4 +1,4 @@
-use Rattle.std.proofs.Common.{ℕ, ◌≡◌, ◌++◌, List, [], Option, Some, None, refl, sym, ◌∙◌, ap, subst}
+use Rattle.std.proofs.Common.{ℕ, ◌≡◌, ◌++◌, List, [], Option, Some, None, refl, sym, ◌∙◌, ap}
 use Rattle.std.proofs.lemmas.List.{append-nil}
 use Rattle.dn_act.specs.declared.actions.Action.{Action}
 use Rattle.dn_hist.specs.declared.receipts.Receipt.{Receipt}
@@ -9,7 +9,6 @@ use Rattle.dn_lane2.specs.State.{LaneState}
 use Rattle.dn_lane2.specs.Turns.{turn_of}
 use Rattle.dn_lane2.specs.declared.answers.Turn.{Turn}
 use Rattle.dn_lanes.specs.Stepped.{receipt_by}
-use Rattle.dn_machine.specs.State.{Machine}
 use Rattle.dn_machine.specs.Events.{Lane, Acts, found, lane_does, of_lane}
 use Rattle.dn_cluster.specs.Acting.{lane_answer, lane_found, standing_of}
 use Rattle.dn_cluster.specs.Machine.{lane_in}
@@ -45,17 +44,17 @@ pub lane_turned : (words : List ℕ) (x : CrewState) (now : List ℕ) (k : Clust
     → came.receipt ≡ receipt_by turn → Moves now (record x { cluster = k }) now y (bare came.outcome) (λ w. by_turn w n turn) → Carries words x now y came (λ w. acts w n)
 lane_turned words x now k y n turn came h answer joins by = record {
   is = λ told receipts sound.
-    let w : World = world_of words x told receipts in
-    let rs : List Standing = receipts ++ standing_of (receipt_by turn) in
-    let b : World = world_of now (record x { cluster = k }) told rs in
-    let e : b ≡ with_event w (Acts (Lane n)) = acted_world words x now (record x { cluster = k }) _ (Acts (Lane n)) h told receipts sound in
-    let r : acts w n ≡ by_turn b n turn = acts_as w n (lane_in (numbered x.cluster.nodes n)) turn answer ∙ sym (ap (λ (z : World). by_turn z n turn) e) in
-    let heard : List Told = (by_turn b n turn).world.machine.callers.told in
-    let d = by.is told rs in
-    let joined : rs ++ [] ≡ receipts ++ joining came.receipt = append-nil rs ∙ ap (λ (ss : List Standing). receipts ++ ss) (joining_is (receipt_by turn) ∙ ap joining (sym joins)) in
-    is_done words x now y came (λ z. acts z n) told receipts heard
-    (ap (λ (z : Done). z.world) r ∙ d.world ∙ ap (λ (ss : List Standing). world_of now y heard ss) joined)
-    (d.outcome ∙ sym (ap (λ (z : Done). z.outcome) r));
+      let w : World = world_of words x told receipts in
+      let rs : List Standing = receipts ++ standing_of (receipt_by turn) in
+      let b : World = world_of now (record x { cluster = k }) told rs in
+      let e : b ≡ with_event w (Acts (Lane n)) = acted_world words x now (record x { cluster = k }) _ (Acts (Lane n)) h told receipts sound in
+      let r : acts w n ≡ by_turn b n turn = acts_as w n (lane_in (numbered x.cluster.nodes n)) turn answer ∙ sym (ap (λ (z : World). by_turn z n turn) e) in
+      let heard : List Told = (by_turn b n turn).world.machine.callers.told in
+      let d = by.is told rs in
+      let joined : rs ++ [] ≡ receipts ++ joining came.receipt = append-nil rs ∙ ap (λ (ss : List Standing). receipts ++ ss) (joining_is (receipt_by turn) ∙ ap joining (sym joins)) in
+      is_done words x now y came (λ z. acts z n) told receipts heard
+      (ap (λ (z : Done). z.world) r ∙ d.world ∙ ap (λ (ss : List Standing). world_of now y heard ss) joined)
+      (d.outcome ∙ sym (ap (λ (z : Done). z.outcome) r));
 }
 
 -- ---- it has no next action

@@ -9,8 +9,6 @@ use Rattle.dn_world2.specs.State.{CrewState, world_of}
 use Rattle.dn_world2.proofs.Refreshing.{IsActed, acted_world}
 use Rattle.dn_world2.proofs.Changes.{is_done}
 use Rattle.dn_cluster.specs.State.{ClusterState}
-use Rattle.dn_route.specs.CallersOrder.{Told}
-use Rattle.dn_callers.specs.Callers.{Standing}
 use Rattle.dn_lane2.specs.State.{LaneState}
 use Rattle.dn_lane2.specs.declared.answers.Turn.{Turn}
 use Rattle.dn_lane2.specs.declared.answers.Turn.TheVariants.{More}
@@ -30,7 +28,6 @@ use Rattle.dn_cluster.specs.declared.actors.Acted.{Acted}
 use Rattle.dn_cluster.specs.declared.actors.Acted.TheVariants as acted
 use Rattle.dn_outcomes.specs.State.{World, Done, done, with_event, with_waiting, is_made}
 use Rattle.dn_outcomes.specs.Steps.{flow_by, flow_at, merges, told_by}
-use Rattle.dn_outcomes.specs.declared.outcomes.Outcome.{Outcome}
 use Rattle.dn_outcomes.specs.declared.outcomes.Outcome.TheVariants as outcome
 
 -- A staged word flows, or a merger makes its next action.
@@ -175,12 +172,12 @@ pub record IsMonitored (words : List ℕ) (x : CrewState) (now : List ℕ) (k : 
 pub monitor_done : (words : List ℕ) (x : CrewState) (now : List ℕ) (k : ClusterState) (y : CrewState) (t : MonitorTurn) (l : Option Leaving) → IsMonitored words x now k y t l → Carries words x now y (bare (ordered_by t)) monitor
 monitor_done words x now k y t l h = record {
   is = λ told receipts sound.
-    let w : World = world_of words x told receipts in
-    let b : World = world_of now (record x { cluster = k }) told (receipts ++ []) in
-    let e : b ≡ with_event w (Acts Monitor) = acted_world words x now (record x { cluster = k }) [] (Acts Monitor) h.acts told receipts sound in
-    let m : (happens w.machine (Acts Monitor)).monitor ≡ k.monitor = sym (ap (λ (z : World). z.machine.monitor) e) in
-    let r : monitor w ≡ done (release b l) (ordered_by t) = monitored_as w x.cluster.monitor t k.monitor refl h.answer m
-    ∙ ap (λ (z : World). done (release z (leaves_by (next_by x.cluster.monitor) t (next_by k.monitor))) (ordered_by t)) (sym e) ∙ ap (λ (o : Option Leaving). done (release b o) (ordered_by t)) (sym h.leaves) in
-    is_done words x now y (bare (ordered_by t)) monitor told receipts told
-    (ap (λ (z : Done). z.world) r ∙ sym (h.releases.is now told (receipts ++ []))) (sym (ap (λ (z : Done). z.outcome) r));
+      let w : World = world_of words x told receipts in
+      let b : World = world_of now (record x { cluster = k }) told (receipts ++ []) in
+      let e : b ≡ with_event w (Acts Monitor) = acted_world words x now (record x { cluster = k }) [] (Acts Monitor) h.acts told receipts sound in
+      let m : (happens w.machine (Acts Monitor)).monitor ≡ k.monitor = sym (ap (λ (z : World). z.machine.monitor) e) in
+      let r : monitor w ≡ done (release b l) (ordered_by t) = monitored_as w x.cluster.monitor t k.monitor refl h.answer m
+      ∙ ap (λ (z : World). done (release z (leaves_by (next_by x.cluster.monitor) t (next_by k.monitor))) (ordered_by t)) (sym e) ∙ ap (λ (o : Option Leaving). done (release b o) (ordered_by t)) (sym h.leaves) in
+      is_done words x now y (bare (ordered_by t)) monitor told receipts told
+      (ap (λ (z : Done). z.world) r ∙ sym (h.releases.is now told (receipts ++ []))) (sym (ap (λ (z : Done). z.outcome) r));
 }

@@ -86,14 +86,14 @@ pub refresh_routed : (words : List ℕ) (x : CrewState) (now : List ℕ) (k : Cl
     → Moves now (record x { cluster = k }) now y (bare o) (λ w. routes w s (call_of w.waiting s)) → Carries words x now y (bare o) (λ w. refresh w s)
 refresh_routed words x now k y s slot o h loads by = record {
   is = λ told receipts sound.
-    let w : World = world_of words x told receipts in
-    let b : World = world_of now (record x { cluster = k }) told (receipts ++ []) in
-    let e : b ≡ with_event w (Acts (Session s)) = acted_world words x now (record x { cluster = k }) [] (Acts (Session s)) h told receipts sound in
-    let r : refresh w s ≡ routes b s (call_of x.waiting s) = refreshed_by w s slot loads ∙ sym (ap (λ (z : World). routes z s (call_of x.waiting s)) e) in
-    let d = by.is told (receipts ++ []) in
-    is_done words x now y (bare o) (λ z. refresh z s) told receipts (routes b s (call_of x.waiting s)).world.machine.callers.told
-    (ap (λ (z : Done). z.world) r ∙ d.world ∙ ap (λ (rs : List Standing). world_of now y (routes b s (call_of x.waiting s)).world.machine.callers.told rs) (append-nil (receipts ++ [])))
-    (d.outcome ∙ sym (ap (λ (z : Done). z.outcome) r));
+      let w : World = world_of words x told receipts in
+      let b : World = world_of now (record x { cluster = k }) told (receipts ++ []) in
+      let e : b ≡ with_event w (Acts (Session s)) = acted_world words x now (record x { cluster = k }) [] (Acts (Session s)) h told receipts sound in
+      let r : refresh w s ≡ routes b s (call_of x.waiting s) = refreshed_by w s slot loads ∙ sym (ap (λ (z : World). routes z s (call_of x.waiting s)) e) in
+      let d = by.is told (receipts ++ []) in
+      is_done words x now y (bare o) (λ z. refresh z s) told receipts (routes b s (call_of x.waiting s)).world.machine.callers.told
+      (ap (λ (z : Done). z.world) r ∙ d.world ∙ ap (λ (rs : List Standing). world_of now y (routes b s (call_of x.waiting s)).world.machine.callers.told rs) (append-nil (receipts ++ [])))
+      (d.outcome ∙ sym (ap (λ (z : Done). z.outcome) r));
 }
 
 -- an event, and its outcome
@@ -103,9 +103,9 @@ pub acts_done : (words : List ℕ) (x : CrewState) (now : List ℕ) (k : Cluster
     → Carries words x now (record x { cluster = k }) (bare o) f
 acts_done words x now k e o f h does = record {
   is = λ told receipts sound.
-    let b : world_of now (record x { cluster = k }) told (receipts ++ []) ≡ with_event (world_of words x told receipts) e = acted_world words x now (record x { cluster = k }) [] e h told receipts sound in
-    is_done words x now (record x { cluster = k }) (bare o) f told receipts told
-    (ap (λ (z : Done). z.world) (does told receipts) ∙ sym b) (sym (ap (λ (z : Done). z.outcome) (does told receipts)));
+      let b : world_of now (record x { cluster = k }) told (receipts ++ []) ≡ with_event (world_of words x told receipts) e = acted_world words x now (record x { cluster = k }) [] e h told receipts sound in
+      is_done words x now (record x { cluster = k }) (bare o) f told receipts told
+      (ap (λ (z : Done). z.world) (does told receipts) ∙ sym b) (sym (ap (λ (z : Done). z.outcome) (does told receipts)));
 }
 
 -- nothing is to be done: the world stays
@@ -116,10 +116,10 @@ pub acts_rest : (words : List ℕ) (x : CrewState) (now : List ℕ) (k : Cluster
     → Carries words x now (record x { cluster = k }) (bare Nothing) f
 acts_rest words x now k e f h nothing same = record {
   is = λ told receipts sound.
-    let w : World = world_of words x told receipts in
-    let b : world_of now (record x { cluster = k }) told (receipts ++ []) ≡ w = acted_world words x now (record x { cluster = k }) [] e h told receipts sound ∙ same told receipts in
-    is_done words x now (record x { cluster = k }) (bare Nothing) f told receipts told
-    (ap (λ (z : Done). z.world) (nothing told receipts) ∙ sym b) (sym (ap (λ (z : Done). z.outcome) (nothing told receipts)));
+      let w : World = world_of words x told receipts in
+      let b : world_of now (record x { cluster = k }) told (receipts ++ []) ≡ w = acted_world words x now (record x { cluster = k }) [] e h told receipts sound ∙ same told receipts in
+      is_done words x now (record x { cluster = k }) (bare Nothing) f told receipts told
+      (ap (λ (z : Done). z.world) (nothing told receipts) ∙ sym b) (sym (ap (λ (z : Done). z.outcome) (nothing told receipts)));
 }
 
 -- the same said of equal crews and outcomes

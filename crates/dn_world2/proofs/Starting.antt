@@ -1,4 +1,4 @@
-use Rattle.std.proofs.Common.{ℕ, ◌≡◌, ◌≤◌, Bool, true, false, List, Option, Some, None, nat_lt, nat_le, Bor, refl, sym, ◌∙◌, ap, subst, arith}
+use Rattle.std.proofs.Common.{ℕ, ◌≡◌, Bool, true, false, List, Option, Some, None, nat_lt, nat_le, Bor, refl, sym, ◌∙◌, ap, arith}
 use Rattle.std.specs.Option.{is_some, option_copied}
 use Rattle.std.proofs.lemmas.Bool.{and_parts, ltb-true, leb-true}
 use Rattle.dn_hist.specs.Calls.{key_of}
@@ -23,7 +23,7 @@ use Rattle.dn_waiting.specs.declared.calls.OpenCall.{OpenCall}
 use Rattle.dn_outcomes.specs.Going.{goes_on}
 use Rattle.dn_outcomes.specs.Sound.{IsWorld}
 use Rattle.dn_outcomes.specs.Starts.{route_in, starts_by, starts, start_unless, start_beside, start}
-use Rattle.dn_outcomes.specs.State.{World, Done, done, with_event, may_name}
+use Rattle.dn_outcomes.specs.State.{World, done, with_event, may_name}
 use Rattle.dn_outcomes.specs.declared.outcomes.Outcome.TheVariants.{Numbered, Busy, Closed, NoLane}
 use Rattle.dn_world2.specs.State.{CrewState, world_of}
 use Rattle.dn_world2.specs.Comes.{Turns}

@@ -1,10 +1,8 @@
 use Rattle.std.specs.Prelude.{IfOk}
-use Rattle.std.proofs.Common.{ℕ, ◌≡◌, ◌≤◌, Result, Ok, Err, Bool, true, false, List, Option, Some, None, nat_lt, nat_le, length, refl, sym, ◌∙◌, ap, subst, arith}
+use Rattle.std.proofs.Common.{ℕ, ◌≡◌, Result, Ok, Err, Bool, true, false, List, Option, Some, None, nat_lt, nat_le, length, refl, sym, ◌∙◌, ap, subst, arith}
 use Rattle.std.proofs.lemmas.Bool.{and_parts, ltb-true, leb-true}
-use Rattle.dn_hist.specs.declared.receipts.SessionView.{SessionView}
 use Rattle.dn_model.specs.Regions.{IsLane}
 use Rattle.dn_route.specs.CallersOrder.{Told}
-use Rattle.dn_tend.specs.declared.tasks.Task.{Task}
 use Rattle.dn_lane2.specs.Left.{is_working}
 use Rattle.dn_lane2.specs.State.{LaneState}
 use Rattle.dn_lane2.specs.declared.asked.Asked.{Asked}
@@ -12,20 +10,18 @@ use Rattle.dn_lane2.specs.declared.asked.Asked.TheVariants as asked
 use Rattle.dn_callers.specs.Callers.{Standing, Callers}
 use Rattle.dn_machine.specs.Sound.{IsCallOf}
 use Rattle.dn_cluster.specs.Does.{CanBeSound}
-use Rattle.dn_cluster.specs.Machine.{lane_in, IsMade}
-use Rattle.dn_cluster.specs.State.{numbered}
+use Rattle.dn_cluster.specs.Machine.{IsMade}
 use Rattle.dn_waiting.specs.State.{at_lane}
 use Rattle.dn_waiting.specs.Sound.{IsLane as IsNumber}
 use Rattle.dn_waiting.specs.Turns.{next_at}
 use Rattle.dn_waiting.specs.declared.calls.Next.{Next}
-use Rattle.dn_waiting.specs.declared.calls.Next.TheVariants.{Rest, Tend, Try}
 use Rattle.dn_outcomes.specs.Sound.{IsWorld, view_at, view_by}
 use Rattle.dn_outcomes.specs.State.{World, Done, done, is_made, on_lane}
 use Rattle.dn_outcomes.specs.Steps.{acts_of, acts, begins, steps_by, steps_of, step}
 use Rattle.dn_outcomes.specs.declared.outcomes.Outcome.TheVariants.{Nothing, NoLane}
-use Rattle.dn_world2.specs.Comes.{IsDone, Comes, CanBeWorld}
+use Rattle.dn_world2.specs.Comes.{Comes, CanBeWorld}
 use Rattle.dn_world2.specs.State.{CrewState, world_of}
-use Rattle.dn_world2.specs.Takes.{barred_by, tends_at, tries_at, IsSessionOf}
+use Rattle.dn_world2.specs.Takes.{barred_by, IsSessionOf}
 use Rattle.dn_world2.specs.declared.crews.Came.{Came}
 use Rattle.dn_world2.proofs.Changes.{is_done, where_true, where_false}
 
@@ -36,9 +32,9 @@ pub comes_eq : (words : List ℕ) (x : CrewState) (now : List ℕ) (y : CrewStat
     → ((told : List Told) (receipts : List Standing) → g (world_of words x told receipts) ≡ f (world_of words x told receipts)) → Comes words x now y came f → Comes words x now y came g
 comes_eq words x now y came f g e h = record {
   is = λ told receipts sound.
-    let d = h.is told receipts sound in
-    is_done words x now y came g told receipts (f (world_of words x told receipts)).world.machine.callers.told
-    (ap (λ (k : Done). k.world) (e told receipts) ∙ d.world) (d.outcome ∙ sym (ap (λ (k : Done). k.outcome) (e told receipts)));
+      let d = h.is told receipts sound in
+      is_done words x now y came g told receipts (f (world_of words x told receipts)).world.machine.callers.told
+      (ap (λ (k : Done). k.world) (e told receipts) ∙ d.world) (d.outcome ∙ sym (ap (λ (k : Done). k.outcome) (e told receipts)));
 }
 
 -- ---- lanes that were made

@@ -1,7 +1,6 @@
-use Rattle.std.proofs.Common.{ℕ, ◌≡◌, ◌≢◌, ◌<◌, ◌≤◌, ◌^◌, true, false, List, [], ◌∷◌, Option, Some, None, length, get_or, set, refl, sym, ◌∙◌, ap, subst, arith}
+use Rattle.std.proofs.Common.{ℕ, ◌≡◌, ◌≢◌, ◌<◌, ◌^◌, false, List, [], ◌∷◌, Option, Some, None, length, refl, sym, ◌∙◌, ap, subst, arith}
 use Rattle.std.proofs.lemmas.List.{get_or-set_same}
 use Rattle.dn_hist.specs.Calls.{key_of}
-use Rattle.dn_hist.specs.declared.calls.Call.{Call}
 use Rattle.dn_hist.specs.declared.receipts.SessionView.{SessionView}
 use Rattle.dn_model.specs.Regions.{IsLane}
 use Rattle.dn_route.specs.CallersOrder.{Told}
@@ -10,7 +9,7 @@ use Rattle.dn_tend.specs.declared.tasks.Task.{Task}
 use Rattle.dn_tend.specs.declared.tasks.Task.TheVariants as task
 use Rattle.dn_tend.specs.declared.tasks.TaskAnswer.TheVariants as answer
 use Rattle.dn_lane2.specs.Left.{is_working}
-use Rattle.dn_lane2.specs.Refused.{refused_by, refusal_of, barred_by as cause_by, Refuses}
+use Rattle.dn_lane2.specs.Refused.{refused_by, barred_by as cause_by, Refuses}
 use Rattle.dn_lane2.specs.State.{LaneState}
 use Rattle.dn_lane2.specs.declared.answers.Refuse.{Refuse}
 use Rattle.dn_lane2.specs.declared.answers.Refuse.TheVariants as refuse
@@ -41,7 +40,7 @@ use Rattle.dn_outcomes.specs.declared.outcomes.Outcome.TheVariants.{Tended}
 use Rattle.dn_outcomes.specs.Going.{called, ends}
 use Rattle.dn_outcomes.specs.declared.outcomes.CallAnswer.TheVariants.{Fenced}
 use Rattle.dn_outcomes.proofs.Facts.{rests_begun, tend_own, is_free, may_ask, try_session, try_call, try_key, try_stamp, try_hint}
-use Rattle.dn_world2.specs.Comes.{IsDone, Moves, Carries, Comes, bare}
+use Rattle.dn_world2.specs.Comes.{Moves, Carries, Comes, bare}
 use Rattle.dn_world2.specs.State.{CrewState, world_of}
 use Rattle.dn_world2.specs.declared.crews.Came.{Came}
 use Rattle.dn_world2.specs.Takes.{Takes, barred_by, tends_at, tries_at}
@@ -106,10 +105,10 @@ pub then_acts : (words : List ℕ) (x z : CrewState) (now : List ℕ) (y : CrewS
     → Carries words z now y came (λ w. acts w n) → Comes words x now y came f
 then_acts words x z now y came n f h by = record {
   is = λ told receipts sound.
-    let l = h told receipts sound in
-    let d = by.is told receipts l.sound in
-    is_done words x now y came f told receipts (acts (world_of words z told receipts) n).world.machine.callers.told
-    (ap (λ (k : Done). k.world) l.leads ∙ d.world) (d.outcome ∙ sym (ap (λ (k : Done). k.outcome) l.leads));
+      let l = h told receipts sound in
+      let d = by.is told receipts l.sound in
+      is_done words x now y came f told receipts (acts (world_of words z told receipts) n).world.machine.callers.told
+      (ap (λ (k : Done). k.world) l.leads ∙ d.world) (d.outcome ∙ sym (ap (λ (k : Done). k.outcome) l.leads));
 }
 
 -- ---- a task
@@ -155,10 +154,10 @@ pub tends_so : (words : List ℕ) (x : CrewState) (n : ℕ) (t : Task) (k : Clus
     → (told : List Told) (receipts : List Standing) → IsWorld (world_of words x told receipts) → Leads words x (after_taking x k n) n (λ w. tends_at w n t) told receipts
 tends_so words x n t k h given free told receipts sound = record {
   leads =
-    let w : World = world_of words x told receipts in
-    ap (λ (o : Option LaneState). tends w n t (barred_by o)) h.runs
-    ∙ ap (λ (b : Option ℕ). tends w n t b) (is_unbarred x.cluster n h.lane h.runs h.rests free)
-    ∙ ap (λ (z : World). acts z n) (sym (taking_world x k n (Tends n t) words told receipts given));
+      let w : World = world_of words x told receipts in
+      ap (λ (o : Option LaneState). tends w n t (barred_by o)) h.runs
+      ∙ ap (λ (b : Option ℕ). tends w n t b) (is_unbarred x.cluster n h.lane h.runs h.rests free)
+      ∙ ap (λ (z : World). acts z n) (sym (taking_world x k n (Tends n t) words told receipts given));
   sound = tends_sound words x n t k told receipts h given.does given.segments sound.machine;
 }
 
@@ -213,10 +212,10 @@ pub tries_so : (words : List ℕ) (x : CrewState) (n : ℕ) (view : SessionView)
     → (told : List Told) (receipts : List Standing) → IsWorld (world_of words x told receipts) → Leads words x (after_taking x k n) n (λ w. tries_at w n view) told receipts
 tries_so words x n view k h given free told receipts sound = record {
   leads =
-    let w : World = world_of words x told receipts in
-    ap (λ (o : Option LaneState). tries w n view (barred_by o)) h.runs
-    ∙ ap (λ (b : Option ℕ). tries w n view b) (is_unbarred x.cluster n h.lane h.runs h.rests free)
-    ∙ ap (λ (z : World). acts z n) (sym (taking_world x k n (Asks n view (called (call_of x.waiting view.session))) words told receipts given));
+      let w : World = world_of words x told receipts in
+      ap (λ (o : Option LaneState). tries w n view (barred_by o)) h.runs
+      ∙ ap (λ (b : Option ℕ). tries w n view b) (is_unbarred x.cluster n h.lane h.runs h.rests free)
+      ∙ ap (λ (z : World). acts z n) (sym (taking_world x k n (Asks n view (called (call_of x.waiting view.session))) words told receipts given));
   sound = tries_sound words x n view k told receipts h given sound;
 }
 
@@ -225,10 +224,10 @@ pub tries_barred : (words : List ℕ) (x y : CrewState) (n : ℕ) (view : Sessio
     → Moves words (after_taking x x.cluster n) words y (bare o) (λ w. ends w n (Fenced word)) → Comes words x words y (bare o) (λ w. tries_at w n view)
 tries_barred words x y n view word o h cause by = record {
   is = λ told receipts sound.
-    let w : World = world_of words x told receipts in
-    let b : World = world_of words (after_taking x x.cluster n) told receipts in
-    let e : tries_at w n view ≡ ends b n (Fenced word) = ap (λ (p : Option LaneState). tries w n view (barred_by p)) h.runs ∙ ap (λ (q : Option ℕ). tries w n view q) (is_barred x.cluster n h.lane word h.runs h.rests cause) in
-    let d = by.is told receipts in
-    is_done words x words y (bare o) (λ z. tries_at z n view) told receipts (ends b n (Fenced word)).world.machine.callers.told
-    (ap (λ (k : Done). k.world) e ∙ d.world) (d.outcome ∙ sym (ap (λ (k : Done). k.outcome) e));
+      let w : World = world_of words x told receipts in
+      let b : World = world_of words (after_taking x x.cluster n) told receipts in
+      let e : tries_at w n view ≡ ends b n (Fenced word) = ap (λ (p : Option LaneState). tries w n view (barred_by p)) h.runs ∙ ap (λ (q : Option ℕ). tries w n view q) (is_barred x.cluster n h.lane word h.runs h.rests cause) in
+      let d = by.is told receipts in
+      is_done words x words y (bare o) (λ z. tries_at z n view) told receipts (ends b n (Fenced word)).world.machine.callers.told
+      (ap (λ (k : Done). k.world) e ∙ d.world) (d.outcome ∙ sym (ap (λ (k : Done). k.outcome) e));
 }

@@ -1,4 +1,4 @@
-use Rattle.std.specs.Prelude.{List, map}
+use Rattle.std.specs.Prelude.{map}
 use Rattle.dn_callers.specs.Callers.{Standing as Stands}
 use Rattle.dn_world2.specs.State.{CrewState, WorldState}
 use Rattle.dn_world2.specs.declared.crews.Crew.TheInside.{Inside}

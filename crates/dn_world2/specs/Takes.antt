@@ -10,7 +10,6 @@ use Rattle.dn_waiting.specs.Sound.{IsLane}
 use Rattle.dn_waiting.specs.State.{at_lane}
 use Rattle.dn_waiting.specs.Turns.{next_at}
 use Rattle.dn_waiting.specs.declared.calls.Next.{Next}
-use Rattle.dn_waiting.specs.declared.calls.Next.TheVariants.{Tend, Try}
 use Rattle.dn_outcomes.specs.State.{World, Done}
 use Rattle.dn_outcomes.specs.Steps.{tends, tries}
 use Rattle.dn_world2.specs.State.{CrewState}

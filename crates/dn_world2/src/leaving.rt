@@ -52,11 +52,7 @@ fn held_at(deed: u64, next: Option<Action>) -> Option<Leaving>
 }
 
 /// The slot that is to be released, and by which lane, by an action of the monitor, what it told, and its next action.
-pub fn leaves_by(
-    action: Option<Action>,
-    turn: MonitorTurn,
-    next: Option<Action>,
-) -> Option<Leaving>
+pub fn leaves_by(action: Option<Action>, turn: MonitorTurn, next: Option<Action>) -> Option<Leaving>
     ensures { result ≡ leaves_by action turn next }
 {
     match turn {

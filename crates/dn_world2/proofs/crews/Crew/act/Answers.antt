@@ -1,4 +1,4 @@
-use Rattle.std.proofs.Common.{ℕ, ◌≡◌, false, List, [], refl, ap, subst, sym, ◌∙◌}
+use Rattle.std.proofs.Common.{ℕ, ◌≡◌, false, List, [], refl, ap, subst, sym}
 use Rattle.dn_machine.specs.State.{Machine}
 use Rattle.dn_machine.specs.Events.{Lane, Acts}
 use Rattle.dn_cluster.specs.Acting.{failed, joined}
@@ -9,8 +9,7 @@ use Rattle.dn_cluster.specs.declared.actors.Acted.{Acted}
 use Rattle.dn_route.specs.CallersOrder.{Told}
 use Rattle.dn_callers.specs.Callers.{Standing}
 use Rattle.dn_outcomes.specs.Steps.{acts}
-use Rattle.dn_outcomes.specs.declared.outcomes.Outcome.TheVariants.{Nothing}
-use Rattle.dn_world2.specs.Comes.{Carries, bare, has_failed}
+use Rattle.dn_world2.specs.Comes.{Carries, has_failed}
 use Rattle.dn_world2.specs.Inside.{state_of}
 use Rattle.dn_world2.specs.State.{CrewState, world_of}
 use Rattle.dn_world2.specs.declared.crews.Came.{Came}
@@ -50,13 +49,13 @@ returns-in_default g c =
     λ told receipts. lane_rests (world_of words x told receipts) n (lane_in (numbered x.cluster.nodes n)) c.act.result c.in_default.not-Lane (c.act.ensures.answer fine) in
     record {
       came = λ _. subst (λ (z : CrewState). Carries words z now (record x { cluster = c.act.new.self }) c.bare-in_default.result (λ w. acts w n)) c.self.view_is
-      (subst (λ (z : Came). Carries words x now (record x { cluster = c.act.new.self }) z (λ w. acts w n)) (sym c.bare-in_default.ensures)
-      (acts_rest words x now c.act.new.self (Acts (Lane n)) (λ w. acts w n) (record {
-        happens_so = subst (λ (a : Acted). Happens words x.cluster now c.act.new.self (joined a) (Acts (Lane n))) (rests [] []).is (c.act.ensures.event fine);
-        segments = c.act.ensures.segments;
-        lanes = c.act.ensures.lanes;
-        waiting = refl;
-        live = refl;
-      }) (λ told receipts. (rests told receipts).nothing) (λ told receipts. ap (λ (m : Machine). record (world_of words x told receipts) { machine = m }) (rests told receipts).same)));
+          (subst (λ (z : Came). Carries words x now (record x { cluster = c.act.new.self }) z (λ w. acts w n)) (sym c.bare-in_default.ensures)
+          (acts_rest words x now c.act.new.self (Acts (Lane n)) (λ w. acts w n) (record {
+            happens_so = subst (λ (a : Acted). Happens words x.cluster now c.act.new.self (joined a) (Acts (Lane n))) (rests [] []).is (c.act.ensures.event fine);
+            segments = c.act.ensures.segments;
+            lanes = c.act.ensures.lanes;
+            waiting = refl;
+            live = refl;
+          }) (λ told receipts. (rests told receipts).nothing) (λ told receipts. ap (λ (m : Machine). record (world_of words x told receipts) { machine = m }) (rests told receipts).same)));
       count = counts_done c.bare-in_default.result.outcome _ _ (ap (λ (z : Came). has_failed z.outcome) c.bare-in_default.ensures) (c.act.ensures.count.done fine);
     }

@@ -1,8 +1,6 @@
 use Rattle.std.proofs.Common.{ℕ, ◌≡◌, ◌++◌, ◌∷◌, List, [], length, refl, ap, subst, sym, ◌∙◌}
 use Rattle.dn_cluster.specs.Asks.{IsAddFault}
 use Rattle.dn_cluster.specs.State.{ClusterState}
-use Rattle.dn_cluster.specs.declared.clusters.AddFault.{AddFault}
-use Rattle.dn_cluster.specs.declared.clusters.AddFault.TheVariants.{Lanes}
 use Rattle.dn_outcomes.specs.Does.{adds}
 use Rattle.dn_outcomes.specs.declared.outcomes.Outcome.TheVariants.{Added, LanesFull}
 use Rattle.dn_world2.specs.Comes.{Moves, bare}

@@ -1,4 +1,4 @@
-use Rattle.std.proofs.Common.{ℕ, ◌≡◌, ◌≢◌, false, List, [], None, refl, ap, subst, sym, ◌∙◌}
+use Rattle.std.proofs.Common.{ℕ, ◌≡◌, List, refl, ap, subst, sym, ◌∙◌}
 use Rattle.std.specs.Prelude.{IsSome}
 use Rattle.dn_hist.specs.declared.receipts.SessionView.{SessionView}
 use Rattle.dn_lane2.specs.Refused.{Refuses}
@@ -11,14 +11,13 @@ use Rattle.dn_machine.specs.Events.{Asks}
 use Rattle.dn_waiting.specs.State.{call_of}
 use Rattle.dn_outcomes.specs.Going.{called, ends}
 use Rattle.dn_outcomes.specs.Steps.{acts}
-use Rattle.dn_outcomes.specs.State.{World}
 use Rattle.dn_outcomes.specs.declared.outcomes.CallAnswer.TheVariants.{Fenced}
 use Rattle.dn_world2.specs.Comes.{Comes, Carries, Moves, bare, has_failed}
 use Rattle.dn_world2.specs.Inside.{state_of}
-use Rattle.dn_world2.specs.State.{CrewState, world_of}
+use Rattle.dn_world2.specs.State.{CrewState}
 use Rattle.dn_world2.specs.Takes.{Takes, tries_at, IsSessionOf}
 use Rattle.dn_world2.specs.declared.crews.Came.{Came}
-use Rattle.dn_world2.proofs.TakingUp.{takes_begun, takes_room, MayTry, may_try, tries_sound, after_taking, tries_so, tries_barred, then_acts, taken_try, IsGivenTo}
+use Rattle.dn_world2.proofs.TakingUp.{takes_begun, takes_room, may_try, tries_sound, after_taking, tries_so, tries_barred, then_acts, taken_try, IsGivenTo}
 use Rattle.dn_world2.proofs.Changes.{counts_done}
 use Rattle.dn_world2.proofs.crews.Crew.attempt.Goals as goal
 
@@ -173,4 +172,3 @@ returns-in-Err-Fenced-clause-came g c =
 pub returns-in-Err-Fenced-clause-count : goal.returns-in-Err-Fenced-clause-count
 returns-in-Err-Fenced-clause-count g c =
     counts_done c.bare.result.outcome _ _ (ap (λ (z : Came). has_failed z.outcome) c.bare.ensures ∙ c.end.ensures.done) refl
-

@@ -4,14 +4,10 @@ use Rattle.std.specs.Option.{is_some}
 use Rattle.dn_route.specs.CallersOrder.{Told}
 use Rattle.dn_callers.specs.Callers.{Standing}
 use Rattle.dn_monitor.specs.Heirs.{AreHeirs}
-use Rattle.dn_monitor.specs.Monitor.{Monitoring}
 use Rattle.dn_machine.specs.Events.{Orders}
 use Rattle.dn_outcomes.specs.Orders.{may_order, give}
-use Rattle.dn_outcomes.specs.Sound.{AreLive}
 use Rattle.dn_outcomes.specs.State.{with_event}
-use Rattle.dn_outcomes.specs.declared.outcomes.Outcome.{Outcome}
 use Rattle.dn_outcomes.specs.declared.outcomes.Outcome.TheVariants.{Acted, MonitorBusy, NoLane}
-use Rattle.dn_world2.specs.Comes.{Moves, bare}
 use Rattle.dn_world2.specs.Gives.{IsGivenBy}
 use Rattle.dn_world2.specs.Inside.{state_of}
 use Rattle.dn_world2.specs.State.{CrewState, world_of}
@@ -58,12 +54,11 @@ returns c =
       came = λ words. subst (λ (z : CrewState). IsGivenBy words z y Acted c.args.order) c.self.view_is (record {
         heirs = m.0.heirs;
         takes = λ _. is_take x.live c.args.order m.0.heirs c.requires.formatted
-        (λ lane e. subst (λ (l : List ℕ). AreHeirs l m.0.heirs) c.deref.ensures.value (c.give_order.ensures.heirs lane m.0 e m.1));
+            (λ lane e. subst (λ (l : List ℕ). AreHeirs l m.0.heirs) c.deref.ensures.value (c.give_order.ensures.heirs lane m.0 e m.1));
         is = turns_so words x y Acted (λ w. give w c.args.order m.0.heirs) (λ w. with_event w (Orders c.args.order m.0.heirs))
-        (clustered x y (Orders c.args.order m.0.heirs) (record { does = c.give_order.ensures.does m.0 m.1; segments = c.give_order.ensures.segments; lanes = c.give_order.ensures.lanes; waiting = refl; live = refl }))
-        (λ told receipts. given (world_of words x told receipts) c.args.order m.0.heirs
-        (subst (λ (z : CrewState). may_order (world_of words z told receipts) c.args.order ≡ true) (sym c.self.view_is) (may words told receipts)) none);
+            (clustered x y (Orders c.args.order m.0.heirs) (record { does = c.give_order.ensures.does m.0 m.1; segments = c.give_order.ensures.segments; lanes = c.give_order.ensures.lanes; waiting = refl; live = refl }))
+            (λ told receipts. given (world_of words x told receipts) c.args.order m.0.heirs
+            (subst (λ (z : CrewState). may_order (world_of words z told receipts) c.args.order ≡ true) (sym c.self.view_is) (may words told receipts)) none);
       });
       done = refl;
     }
-

@@ -1,4 +1,4 @@
-use Rattle.std.proofs.Common.{ℕ, List, ap, sym, ◌==◌, ◌∙◌}
+use Rattle.std.proofs.Common.{ℕ, List, ap, ◌==◌, ◌∙◌}
 use Rattle.std.specs.List.{list_any}
 use Rattle.dn_world2.specs.State.{CrewState}
 use Rattle.dn_world2.proofs.crews.Crew.is_live.Goals as goal

@@ -1,4 +1,4 @@
-use Rattle.std.proofs.Common.{ℕ, ◌≡◌, inl, inr, ap, sym, ◌∙◌}
+use Rattle.std.proofs.Common.{inl, inr, ap, sym, ◌∙◌}
 use Rattle.dn_monitor.specs.declared.orders.Order.{Order}
 use Rattle.dn_outcomes.specs.Orders.{may_order}
 use Rattle.dn_world2.specs.State.{world_of}

@@ -1,11 +1,11 @@
-use Rattle.std.proofs.Common.{ℕ, ◌≡◌, ◌≤◌, true, false, List, [], Some, None, length, refl, ap, subst, sym, ◌∙◌, arith}
+use Rattle.std.proofs.Common.{ℕ, ◌≡◌, ◌≤◌, true, List, [], length, refl, ap, subst, sym, ◌∙◌, arith}
 use Rattle.dn_route.specs.CallersOrder.{Told}
 use Rattle.dn_callers.specs.Callers.{Standing}
 use Rattle.dn_cluster.specs.Machine.{lane_in, IsMade}
 use Rattle.dn_cluster.specs.State.{numbered}
 use Rattle.dn_waiting.specs.State.{WaitingState}
 use Rattle.dn_outcomes.specs.Does.{queues}
-use Rattle.dn_outcomes.specs.State.{World, is_made, on_lane, done}
+use Rattle.dn_outcomes.specs.State.{is_made, on_lane, done}
 use Rattle.dn_outcomes.specs.declared.outcomes.Outcome.TheVariants.{Nothing, Acted, NoLane}
 use Rattle.dn_world2.specs.Comes.{Moves, bare}
 use Rattle.dn_world2.specs.Inside.{state_of}
@@ -59,11 +59,10 @@ returns c =
     record {
       came = λ words. subst (λ (z : CrewState). Moves words z words y (bare Acted) (λ w. on_lane w c.args.lane (queues w c.args.lane c.args.task (w.machine.lanes c.args.lane)))) c.self.view_is (record {
         is = λ told receipts. no_receipt words x words y Acted (λ w. on_lane w c.args.lane (queues w c.args.lane c.args.task (w.machine.lanes c.args.lane))) told receipts told
-        (on_made (world_of words x told receipts) n _ (made words told receipts)
-        ∙ queued_runs (world_of words x told receipts) n c.args.task (lane_in (numbered x.cluster.nodes n)) there.0 there.1
-        ∙ ap (λ (v : WaitingState). done (world_of words (record x { waiting = v }) told receipts) Acted) (sym c.in_ok-queue_task.ensures.ok));
+            (on_made (world_of words x told receipts) n _ (made words told receipts)
+            ∙ queued_runs (world_of words x told receipts) n c.args.task (lane_in (numbered x.cluster.nodes n)) there.0 there.1
+            ∙ ap (λ (v : WaitingState). done (world_of words (record x { waiting = v }) told receipts) Acted) (sym c.in_ok-queue_task.ensures.ok));
       });
       done = refl;
       same = tt;
     }
-

@@ -50,31 +50,31 @@ returns g c =
     let s : ℕ = c.args.session in
     elim c.match-act.branch [
       | in-Session w ↦
-        let slot = session_answered words (load_in (numbered x.cluster.clients s)) w.in-Session.word (w.in-Session.ensures.answer refl) in
-        record {
-          came = λ _. carries_as words c.args.self.now x now c.match-act.self w.routed.new.self c.match-act.result w.routed.result (λ z. refresh z s) c.self.view_is w.self-is w.result-is
-          (refresh_routed words x now c.act.new.self w.routed.new.self s slot.0 w.routed.result (record {
-            happens_so = w.in-Session.ensures.event refl;
-            segments = w.in-Session.ensures.segments;
-            lanes = w.in-Session.ensures.lanes;
-            waiting = refl;
-            live = refl;
-          }) slot.1 (w.routed.ensures.came now));
-          count = counts_done c.match-act.result _ _ (ap has_failed w.result-is ∙ w.routed.ensures.done) (w.in-Session.ensures.count.done refl);
-        }
+          let slot = session_answered words (load_in (numbered x.cluster.clients s)) w.in-Session.word (w.in-Session.ensures.answer refl) in
+          record {
+            came = λ _. carries_as words c.args.self.now x now c.match-act.self w.routed.new.self c.match-act.result w.routed.result (λ z. refresh z s) c.self.view_is w.self-is w.result-is
+                (refresh_routed words x now c.act.new.self w.routed.new.self s slot.0 w.routed.result (record {
+                  happens_so = w.in-Session.ensures.event refl;
+                  segments = w.in-Session.ensures.segments;
+                  lanes = w.in-Session.ensures.lanes;
+                  waiting = refl;
+                  live = refl;
+                }) slot.1 (w.routed.ensures.came now));
+            count = counts_done c.match-act.result _ _ (ap has_failed w.result-is ∙ w.routed.ensures.done) (w.in-Session.ensures.count.done refl);
+          }
       | in-Fault w ↦ record { came = λ done. absurd (no_fault c.match-act.result (Fault (actor.Session s)) w.result-is refl done); count = counts_fault c.match-act.result _ _ (ap has_failed w.result-is) (w.in-Fault.ensures.count.fault refl) }
       | in_default w ↦
-        let fine : failed c.act.result ≡ false = not_failed c.act.result w.in_default.not-Fault in
-        let idle = session_rests words (load_in (numbered x.cluster.clients s)) c.act.result w.in_default.not-Session (c.act.ensures.answer fine) in
-        record {
-          came = λ _. carries_as words c.args.self.now x now c.match-act.self (record x { cluster = c.act.new.self }) c.match-act.result Nothing (λ z. refresh z s) c.self.view_is w.self-is w.result-is
-          (acts_rest words x now c.act.new.self (Acts (Session s)) (λ z. refresh z s) (record {
-            happens_so = subst (λ (a : Acted). Happens words x.cluster now c.act.new.self (joined a) (Acts (Session s))) idle.is (c.act.ensures.event fine);
-            segments = c.act.ensures.segments;
-            lanes = c.act.ensures.lanes;
-            waiting = refl;
-            live = refl;
-          }) (λ told receipts. refreshed_none (world_of words x told receipts) s idle.nothing) (λ told receipts. loads_none (world_of words x told receipts) s idle.nothing));
-          count = counts_done c.match-act.result _ _ (ap has_failed w.result-is) (c.act.ensures.count.done fine);
-        }
+          let fine : failed c.act.result ≡ false = not_failed c.act.result w.in_default.not-Fault in
+          let idle = session_rests words (load_in (numbered x.cluster.clients s)) c.act.result w.in_default.not-Session (c.act.ensures.answer fine) in
+          record {
+            came = λ _. carries_as words c.args.self.now x now c.match-act.self (record x { cluster = c.act.new.self }) c.match-act.result Nothing (λ z. refresh z s) c.self.view_is w.self-is w.result-is
+                (acts_rest words x now c.act.new.self (Acts (Session s)) (λ z. refresh z s) (record {
+                  happens_so = subst (λ (a : Acted). Happens words x.cluster now c.act.new.self (joined a) (Acts (Session s))) idle.is (c.act.ensures.event fine);
+                  segments = c.act.ensures.segments;
+                  lanes = c.act.ensures.lanes;
+                  waiting = refl;
+                  live = refl;
+                }) (λ told receipts. refreshed_none (world_of words x told receipts) s idle.nothing) (λ told receipts. loads_none (world_of words x told receipts) s idle.nothing));
+            count = counts_done c.match-act.result _ _ (ap has_failed w.result-is) (c.act.ensures.count.done fine);
+          }
     ]

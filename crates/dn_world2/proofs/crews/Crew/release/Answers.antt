@@ -1,4 +1,4 @@
-use Rattle.std.proofs.Common.{Option, Some, None, refl, subst, sym}
+use Rattle.std.proofs.Common.{Option, refl, subst, sym}
 use Rattle.dn_outcomes.specs.Orders.{release}
 use Rattle.dn_outcomes.specs.declared.leaving.Leaving.{Leaving}
 use Rattle.dn_world2.specs.Comes.{Turns}

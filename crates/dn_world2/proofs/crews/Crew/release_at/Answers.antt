@@ -1,4 +1,4 @@
-use Rattle.std.proofs.Common.{ℕ, ◌≡◌, ◌≤◌, true, false, List, [], Some, None, refl, ap, subst, sym, ◌∙◌, length, arith}
+use Rattle.std.proofs.Common.{ℕ, ◌≡◌, ◌≤◌, true, List, [], Some, None, ap, subst, sym, ◌∙◌, length, arith}
 use Rattle.std.proofs.lemmas.Bool.{lt-ltb, le-ltb}
 use Rattle.dn_route.specs.CallersOrder.{Told}
 use Rattle.dn_callers.specs.Callers.{Standing}
@@ -37,8 +37,10 @@ returns-then-is_stopped c =
     let l : Leaving = c.args.leaving in
     let made : (words : List ℕ) (told : List Told) (receipts : List Standing) → is_made (world_of words x told receipts) l.lane ≡ true =
     λ words told receipts. subst (λ (z : CrewState). is_made (world_of words z told receipts) l.lane ≡ true) (sym c.self.view_is) (sym (c.is_made.ensures words told receipts) ∙ c.if-not-is_made.false) in
-    record { is = λ words told receipts. sym (release_stopped (world_of words c.args.self.now told receipts) c.args.leaving
-    (subst (λ (z : CrewState). lane_in (numbered z.cluster.nodes l.lane) ≡ None) c.self.view_is (c.is_stopped.ensures.0 c.if-is_stopped.true))) }
+    record {
+      is = λ words told receipts. sym (release_stopped (world_of words c.args.self.now told receipts) c.args.leaving
+          (subst (λ (z : CrewState). lane_in (numbered z.cluster.nodes l.lane) ≡ None) c.self.view_is (c.is_stopped.ensures.0 c.if-is_stopped.true)));
+    }
 
 pub queue_release-requires-clause-lane : goal.queue_release-requires-clause-lane
 queue_release-requires-clause-lane c =
@@ -60,7 +62,6 @@ returns c =
     let y : CrewState = record x { waiting = c.queue_release.new.self } in
     subst (λ (z : CrewState). Turns z y (λ w. release w (Some l))) c.self.view_is (record {
       is = λ words told receipts.
-        ap (λ (v : WaitingState). world_of words (record x { waiting = v }) told receipts) c.queue_release.ensures
-        ∙ sym (release_runs (world_of words x told receipts) l there.0 (made words told receipts) (lt-ltb l.slot 64 c.if-slot-ge64.false) there.1);
+          ap (λ (v : WaitingState). world_of words (record x { waiting = v }) told receipts) c.queue_release.ensures
+          ∙ sym (release_runs (world_of words x told receipts) l there.0 (made words told receipts) (lt-ltb l.slot 64 c.if-slot-ge64.false) there.1);
     })
-

@@ -58,16 +58,16 @@ returns-in-GivenUp-clause-came c =
       has = copied_some c.call.result c.in-Some.call (call_of x.waiting s) c.call.ensures c.in-Some.is;
       itself = e;
       view_is = c.again-view.ensures ∙ ap (λ (z : SessionState). view_of z c.key_of-key.result) c.session-caller.ensures.value
-      ∙ ap (λ (k : ℕ). view_of (session_at x.cluster s) k) c.key_of-key.ensures;
+          ∙ ap (λ (k : ℕ). view_of (session_at x.cluster s) k) c.key_of-key.ensures;
       route_is = c.lane_or_none-route.ensures.value ∙ ap lane_or_none (c.route.ensures.value
-      ∙ ap (λ (k : ℕ). slice_index c.session-caller.result.now.routes k) (c.slot_of.ensures.value ∙ ap slot_of c.key_of-key.ensures)
-      ∙ ap (λ (z : SessionState). slice_index z.routes (slot_of (key_of call.call))) c.session-caller.ensures.value);
+          ∙ ap (λ (k : ℕ). slice_index c.session-caller.result.now.routes k) (c.slot_of.ensures.value ∙ ap slot_of c.key_of-key.ensures)
+          ∙ ap (λ (z : SessionState). slice_index z.routes (slot_of (key_of call.call))) c.session-caller.ensures.value);
       course_is = c.loaded-course.ensures.course;
       goes = subst (λ (z : WaitingState). Turns (record x { waiting = z }) y (λ w. goes_on w s c.loaded-course.result)) c.loaded-course.ensures.after c.go_on.ensures;
     } in
     λ words. subst (λ (z : CrewState). Moves words z words y (bare (GivenUp s call.number)) (λ w. routes w s (call_of w.waiting s))) c.self.view_is (record {
       is = λ told receipts. no_receipt words x words y (GivenUp s call.number) (λ w. routes w s (call_of w.waiting s)) told receipts told
-        (routing x y s call c.again-view.result c.lane_or_none-route.result c.loaded-course.result h words told receipts ∙ ap (λ (o : Course). done (world_of words y told receipts) (given_by call s o)) c.in-GivenUp.is);
+          (routing x y s call c.again-view.result c.lane_or_none-route.result c.loaded-course.result h words told receipts ∙ ap (λ (o : Course). done (world_of words y told receipts) (given_by call s o)) c.in-GivenUp.is);
     })
 
 pub returns-in-Load-clause-came : goal.returns-in-Load-clause-came
@@ -82,15 +82,14 @@ returns-in-Load-clause-came c =
       has = copied_some c.call.result c.in-Some.call (call_of x.waiting s) c.call.ensures c.in-Some.is;
       itself = e;
       view_is = c.again-view.ensures ∙ ap (λ (z : SessionState). view_of z c.key_of-key.result) c.session-caller.ensures.value
-      ∙ ap (λ (k : ℕ). view_of (session_at x.cluster s) k) c.key_of-key.ensures;
+          ∙ ap (λ (k : ℕ). view_of (session_at x.cluster s) k) c.key_of-key.ensures;
       route_is = c.lane_or_none-route.ensures.value ∙ ap lane_or_none (c.route.ensures.value
-      ∙ ap (λ (k : ℕ). slice_index c.session-caller.result.now.routes k) (c.slot_of.ensures.value ∙ ap slot_of c.key_of-key.ensures)
-      ∙ ap (λ (z : SessionState). slice_index z.routes (slot_of (key_of call.call))) c.session-caller.ensures.value);
+          ∙ ap (λ (k : ℕ). slice_index c.session-caller.result.now.routes k) (c.slot_of.ensures.value ∙ ap slot_of c.key_of-key.ensures)
+          ∙ ap (λ (z : SessionState). slice_index z.routes (slot_of (key_of call.call))) c.session-caller.ensures.value);
       course_is = c.loaded-course.ensures.course;
       goes = subst (λ (z : WaitingState). Turns (record x { waiting = z }) y (λ w. goes_on w s c.loaded-course.result)) c.loaded-course.ensures.after c.go_on.ensures;
     } in
     λ words. subst (λ (z : CrewState). Moves words z words y (bare (Acted)) (λ w. routes w s (call_of w.waiting s))) c.self.view_is (record {
       is = λ told receipts. no_receipt words x words y (Acted) (λ w. routes w s (call_of w.waiting s)) told receipts told
-        (routing x y s call c.again-view.result c.lane_or_none-route.result c.loaded-course.result h words told receipts ∙ ap (λ (o : Outcome). done (world_of words y told receipts) o) (goes_on_so call s c.loaded-course.result c.in-Load.is));
+          (routing x y s call c.again-view.result c.lane_or_none-route.result c.loaded-course.result h words told receipts ∙ ap (λ (o : Outcome). done (world_of words y told receipts) o) (goes_on_so call s c.loaded-course.result c.in-Load.is));
     })
-

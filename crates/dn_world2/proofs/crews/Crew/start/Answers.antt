@@ -22,17 +22,17 @@ use Rattle.dn_world2.proofs.crews.Crew.start.Goals as goal
 pub returns-then-not-may_name : goal.returns-then-not-may_name
 returns-then-not-may_name c = record {
   came = λ words. stays words c.args.self.now NoLane (λ w. start w c.args.session c.args.lane c.args.call)
-  (λ told receipts. named_badly (world_of words c.args.self.now told receipts) c.args.session c.args.lane c.args.call (sym (c.may_name.ensures words told receipts) ∙ c.if-not-may_name.true));
+      (λ told receipts. named_badly (world_of words c.args.self.now told receipts) c.args.session c.args.lane c.args.call (sym (c.may_name.ensures words told receipts) ∙ c.if-not-may_name.true));
   done = refl;
 }
 
 pub returns-then-is_some : goal.returns-then-is_some
 returns-then-is_some c = record {
   came = λ words. stays words c.args.self.now Busy (λ w. start w c.args.session c.args.lane c.args.call)
-  (λ told receipts.
-  let there : is_some (call_of c.args.self.now.waiting c.args.session) ≡ true =
-  ap (λ (z : CrewState). is_some (call_of z.waiting c.args.session)) (sym c.self.view_is) ∙ sym (ap is_some c.call.ensures) ∙ copied c.call.result ∙ sym c.is_some.ensures ∙ c.if-is_some.true in
-  busy (world_of words c.args.self.now told receipts) c.args.session c.args.lane c.args.call (sym (c.may_name.ensures words told receipts) ∙ c.if-not-may_name.false) there);
+      (λ told receipts.
+      let there : is_some (call_of c.args.self.now.waiting c.args.session) ≡ true =
+      ap (λ (z : CrewState). is_some (call_of z.waiting c.args.session)) (sym c.self.view_is) ∙ sym (ap is_some c.call.ensures) ∙ copied c.call.result ∙ sym c.is_some.ensures ∙ c.if-is_some.true in
+      busy (world_of words c.args.self.now told receipts) c.args.session c.args.lane c.args.call (sym (c.may_name.ensures words told receipts) ∙ c.if-not-may_name.false) there);
   done = refl;
 }
 
@@ -42,9 +42,9 @@ returns-then-is_closed c =
     let free : call_of x.waiting c.args.session ≡ None = none_of (call_of x.waiting c.args.session) (sym (ap is_some c.call.ensures) ∙ copied c.call.result ∙ sym c.is_some.ensures ∙ c.if-is_some.false) in
     record {
       came = λ words. stays words c.args.self.now Closed (λ w. start w c.args.session c.args.lane c.args.call)
-      (λ told receipts. closed_now (world_of words c.args.self.now told receipts) c.args.session c.args.lane c.args.call (sym (c.may_name.ensures words told receipts) ∙ c.if-not-may_name.false)
-      (subst (λ (z : CrewState). call_of z.waiting c.args.session ≡ None) c.self.view_is free)
-      (subst (λ (z : CrewState). closed_in (numbered z.cluster.clients c.args.session) ≡ true) c.self.view_is (sym c.is_closed.ensures ∙ c.if-is_closed.true)));
+          (λ told receipts. closed_now (world_of words c.args.self.now told receipts) c.args.session c.args.lane c.args.call (sym (c.may_name.ensures words told receipts) ∙ c.if-not-may_name.false)
+          (subst (λ (z : CrewState). call_of z.waiting c.args.session ≡ None) c.self.view_is free)
+          (subst (λ (z : CrewState). closed_in (numbered z.cluster.clients c.args.session) ≡ true) c.self.view_is (sym c.is_closed.ensures ∙ c.if-is_closed.true)));
       done = refl;
     }
 
@@ -81,16 +81,16 @@ returns c =
       numbered = clustered x a (Numbers s) (record { does = c.number-view.ensures.does; segments = c.number-view.ensures.segments; lanes = c.number-view.ensures.lanes; waiting = refl; live = refl });
       view_is = c.number-view.ensures.value ∙ ap (λ (k : ℕ). view_of (session_at c.number-view.new.self s) k) c.key_of-key.ensures;
       route_is = c.lane_or_none-route.ensures.value ∙ ap lane_or_none (c.route.ensures.value
-      ∙ ap (λ (k : ℕ). slice_index c.session.result.now.routes k) (c.slot_of.ensures.value ∙ ap slot_of c.key_of-key.ensures)
-      ∙ ap (λ (z : SessionState). slice_index z.routes (slot_of (key_of c.args.call))) c.session.ensures.value);
+          ∙ ap (λ (k : ℕ). slice_index c.session.result.now.routes k) (c.slot_of.ensures.value ∙ ap slot_of c.key_of-key.ensures)
+          ∙ ap (λ (z : SessionState). slice_index z.routes (slot_of (key_of c.args.call))) c.session.ensures.value);
       course_is = c.start-course.ensures.course;
       goes = subst (λ (z : WaitingState). Turns (record a { waiting = z }) y (λ w. goes_on w s c.start-course.result)) c.start-course.ensures.after c.go_on.ensures;
     } in
     record {
       came = λ words. subst (λ (z : CrewState). Carries words z words y (bare (Numbered c.number-view.result.number)) (λ w. start w s c.args.lane c.args.call)) c.self.view_is (record {
         is = λ told receipts sound. no_receipt words x words y (Numbered c.number-view.result.number) (λ w. start w s c.args.lane c.args.call) told receipts told
-        (numbered_one x a y s c.args.lane c.args.call c.number-view.result c.lane_or_none-route.result c.start-course.result h words told receipts
-        (subst (λ (z : CrewState). may_name (world_of words z told receipts) c.args.lane ≡ true) (sym c.self.view_is) (sym (c.may_name.ensures words told receipts) ∙ c.if-not-may_name.false)) free (sym c.is_closed.ensures ∙ c.if-is_closed.false));
+            (numbered_one x a y s c.args.lane c.args.call c.number-view.result c.lane_or_none-route.result c.start-course.result h words told receipts
+            (subst (λ (z : CrewState). may_name (world_of words z told receipts) c.args.lane ≡ true) (sym c.self.view_is) (sym (c.may_name.ensures words told receipts) ∙ c.if-not-may_name.false)) free (sym c.is_closed.ensures ∙ c.if-is_closed.false));
       });
       done = refl;
     }

@@ -224,4 +224,3 @@ returns-in-Try-clause-came g c =
     if_ok c.attempt.result (λ came. OnDone came.outcome (Comes words x now y came (λ w. tries_at w n c.in-Try.view))) (λ came. OnDone came.outcome (Comes words x now y came (λ w. on_lane w n (step w n))))
     (λ came h fine. comes_eq words x now y came (λ w. tries_at w n c.in-Try.view) (λ w. on_lane w n (step w n)) (λ told receipts. on_made (world_of words x told receipts) n (step (world_of words x told receipts) n) (made words told receipts)
     ∙ step_resting (world_of words x told receipts) n l (Try c.in-Try.view) runs rests next) (h fine)) c.attempt.ensures.came
-

@@ -1,21 +1,16 @@
-use Rattle.std.proofs.Common.{ℕ, ◌≡◌, false, List, [], None, refl, ap, subst, sym, ◌∙◌}
-use Rattle.dn_hist.specs.declared.receipts.SessionView.{SessionView}
+use Rattle.std.proofs.Common.{ℕ, List, refl, subst, sym, ◌∙◌}
 use Rattle.dn_waiting.specs.State.{WaitingState, at_lane}
-use Rattle.dn_waiting.specs.Turns.{taken_up}
 use Rattle.dn_waiting.specs.declared.calls.Next.TheVariants.{Tend}
-use Rattle.dn_world2.specs.Comes.{Comes, Carries, bare}
+use Rattle.dn_world2.specs.Comes.{Comes, Carries}
 use Rattle.dn_world2.specs.Inside.{state_of}
-use Rattle.dn_world2.specs.State.{CrewState, world_of}
+use Rattle.dn_world2.specs.State.{CrewState}
 use Rattle.dn_world2.specs.Takes.{Takes, tends_at, IsSessionOf}
-use Rattle.dn_world2.specs.declared.crews.Came.{Came}
 use Rattle.dn_outcomes.specs.Steps.{acts}
-use Rattle.dn_outcomes.specs.State.{World}
 use Rattle.dn_outcomes.specs.declared.outcomes.Outcome.TheVariants.{Tended}
 use Rattle.dn_tend.specs.declared.tasks.TaskAnswer.TheVariants as answer
 use Rattle.dn_world2.proofs.TakingUp.{takes_begun, takes_room, takes_fits, tends_sound, after_taking, tends_so, tends_barred, then_acts, taken_tend, refused_now}
 use Rattle.dn_lane2.specs.Refused.{Refuses}
 use Rattle.dn_cluster.specs.Asks.{refused_in}
-use Rattle.dn_world2.proofs.Changes.{no_receipt}
 use Rattle.dn_world2.proofs.crews.Crew.tend.Goals as goal
 
 pub give_task-requires-clause-runs : goal.give_task-requires-clause-runs

@@ -1,4 +1,4 @@
-use Rattle.std.proofs.Common.{ℕ, ◌≡◌, List, refl, ap, subst, sym, ◌∙◌}
+use Rattle.std.proofs.Common.{ap, sym, ◌∙◌}
 use Rattle.dn_lane2.specs.declared.answers.Turn.{Turn}
 use Rattle.dn_outcomes.specs.Going.{ends}
 use Rattle.dn_outcomes.specs.Steps.{by_turn}

@@ -1,8 +1,6 @@
-use Rattle.std.proofs.Common.{ℕ, ◌≡◌, List, map, refl, ap, subst, sym, ◌∙◌}
-use Rattle.dn_callers.specs.Callers.{Standing}
-use Rattle.dn_outcomes.specs.declared.outcomes.Outcome.{Outcome}
+use Rattle.std.proofs.Common.{ℕ, List, map, subst}
 use Rattle.dn_world2.specs.Happens.{Happens}
-use Rattle.dn_world2.specs.Inside.{stands_as, world_in}
+use Rattle.dn_world2.specs.Inside.{stands_as}
 use Rattle.dn_world2.specs.State.{CrewState, WorldState}
 use Rattle.dn_world2.proofs.History.{world_happens, one_more, no_more}
 use Rattle.dn_world2.proofs.worlds.World.event.Goals as goal
