@@ -8,3 +8,4 @@ pub mod PlayedLemmas
 mod SaidFits
 mod ValueFits
 mod Walks
+mod AskedLemmas

@@ -1,3 +1,4 @@
+pub mod Asked
 pub mod Bad
 pub mod Fault
 pub mod Fit
@@ -9,6 +10,7 @@ pub mod Played
 pub mod Said
 pub mod Script
 pub mod Sentence
+pub mod Serial
 pub mod Spelled
 pub mod Table
 pub mod Value

@@ -24,6 +24,7 @@
 //! one word of the list that [`parse_with`] is handed; [`PLAYED`] is the list of those that are played.
 #![tactic(auto)]
 
+mod asked;
 mod faults;
 mod fields;
 mod meanings;
@@ -31,12 +32,14 @@ mod parsing;
 mod rows;
 mod scripts;
 mod sentences;
+mod serial;
 #[cfg(test)]
 mod tests;
 mod texts;
 mod values;
 mod verbs;
 
+pub use asked::{AskedCall, asked_by};
 pub use faults::{Cause, ParseFault};
 pub use parsing::{parse, parse_with};
 pub use scripts::{Line, Mode, Script};

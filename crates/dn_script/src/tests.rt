@@ -335,3 +335,58 @@ fn values_and_headers(rt: HostRuntime) -> Result<(), Fail> {
     assert_eq!(rt; Cause::Header.name(), "header");
     Ok(())
 }
+
+/// Scripts, and whether they are serial.
+const SERIAL: [(&str, bool); 16] = [
+    ("", true),
+    ("pool 5\nnodes 2\n;\n\n", true),
+    ("c1 put 5 =a\nadd\nmove 5 2\nbalance\nc2 @1 get 5\n", true),
+    ("trim 1\nmerge 1 9\ntell 1 2\nc1 del 5\n", true),
+    ("c1 start get 5\n", false),
+    ("c1 get 5\nc1 @1 start get 5\n", false),
+    ("start move 5 1\n", false),
+    ("start takeover 1\n", false),
+    ("takeover 1\n", false),
+    ("fence 1\n", false),
+    ("step 1\n", false),
+    ("flow 1 0\n", false),
+    ("monitor\n", false),
+    ("remove 1\n", false),
+    ("stop 1\n", false),
+    ("fuse 1 1\nc1 get 5\n", false),
+];
+
+#[test]
+fn serial_scripts(rt: HostRuntime) -> Result<(), Fail> {
+    for (text, serial) in SERIAL {
+        let Ok(script) = parse_with(rt.alloc(), text.as_bytes(), Mode::Play, 1024, &ALL) else {
+            return Err(Fail::new(text));
+        };
+        assert!(rt; script.is_serial() == serial, "{text}");
+    }
+    Ok(())
+}
+
+#[test]
+fn calls_of_a_run(rt: HostRuntime) -> Result<(), Fail> {
+    let text =
+        b"c1 put 7 =a\nadd\nc2 get 8\nc1 get 9\nc1 start del 6\ntell 1 2\nc2 get 5\nc1 get 4\n";
+    let Ok(script) = parse_with(rt.alloc(), text, Mode::Play, 1024, &ALL) else {
+        return Err(Fail::new("no script"));
+    };
+    let taken = [true, true, true, false, true, false, true, true];
+    let lines = script.lines.as_slice();
+    if lines.len() != taken.len() {
+        return Err(Fail::new("eight lines"));
+    }
+    let asked = asked_by(rt.alloc(), lines, &taken)?;
+    let wanted = [(1, 1, 7), (2, 1, 8), (1, 2, 6), (2, 2, 5), (1, 3, 4)];
+    assert_eq!(rt; asked.len(), wanted.len());
+    for (one, (session, number, key)) in asked.iter().zip(wanted) {
+        let (Call::Get { key: found }
+        | Call::Put { key: found, .. }
+        | Call::Delete { key: found }) = one.call;
+        assert_eq!(rt; (one.session, one.number, found), (session, number, key));
+    }
+    Ok(())
+}
