@@ -29,7 +29,7 @@ use Rattle.dn_waiting.specs.declared.calls.Course.TheVariants as course
 use Rattle.dn_waiting.specs.declared.calls.OpenCall.{OpenCall}
 use Rattle.dn_outcomes.specs.Does.{queues, adds_lane, adds, tells_unless, tells, does}
 use Rattle.dn_outcomes.specs.declared.leaving.Leaving.{Leaving}
-use Rattle.dn_outcomes.specs.Orders.{leaves_by, release_at, release, told_by as monitor_told, orders_by, orders_of, monitor, may_order, gives_beside, give}
+use Rattle.dn_outcomes.specs.Orders.{leaves_by, release_at, release, fenced_by, unlive, told_by as monitor_told, orders_by, orders_of, monitor, may_order, gives_beside, give}
 use Rattle.dn_outcomes.specs.Sound.{IsWorld}
 use Rattle.dn_outcomes.specs.Starts.{given_by, routes, start_unless, start_beside, start, refresh_of, refresh}
 use Rattle.dn_outcomes.specs.State.{World, Done, done, with_event, is_made, may_name, on_lane}
@@ -94,6 +94,10 @@ release_map w (Some x) held h = by_test (is_made w x.lane && nat_lt x.slot 64) w
   by_test true = release_at_map w x (w.machine.lanes x.lane) held h
   by_test false = h
 
+unlive_map : (w : World) (o : Option ℕ) (held : Bytes) → HoldsMap w.machine.words held → HoldsMap (unlive w o).machine.words held
+unlive_map w None held h = h
+unlive_map w (Some n) held h = h
+
 monitor_outcome : (w now : World) (t : MonitorTurn) (held : Bytes) → HoldsMap now.machine.words held → EffectOf w (done now (monitor_told t)) held
 monitor_outcome w now turn.More held h = h
 monitor_outcome w now (turn.Answered answer) held h = h
@@ -105,8 +109,9 @@ monitor_effect w held h holds = by_order w.machine.monitor where
   by_action x (Some action) =
       let word : ℕ = found w.machine action in
       let o : Option Leaving = leaves_by (Some action) (monitor_turn x word) (monitor_next (monitor_after x word)) in
-      monitor_outcome w (release (with_event w (Acts Monitor)) o) (monitor_turn x word) held
-      (release_map (with_event w (Acts Monitor)) o held (monitor_map w.segments w.machine held h.machine holds))
+      let v : World = release (with_event w (Acts Monitor)) o in
+      monitor_outcome w (unlive v (fenced_by (Some action))) (monitor_turn x word) held
+      (unlive_map v (fenced_by (Some action)) held (release_map (with_event w (Acts Monitor)) o held (monitor_map w.segments w.machine held h.machine holds)))
 
   by_order : (o : Option Monitoring) → EffectOf w (orders_of w o) held
   by_order None = holds

@@ -1,7 +1,7 @@
 use Rattle.std.proofs.Common.{ℕ, ◌+◌, ◌≡◌, ◌<◌, ◌≤◌, ◌++◌, ◌∷◌, [], ◌&&◌, inl, inr, Bool, true, false, List, Option, Some, None, nat_lt, if◌then◌else◌, refl, sym, ◌∙◌, ap, subst, arith}
 use Rattle.std.proofs.lemmas.Bool.{and_parts, ltb-true}
-use Rattle.std.proofs.lemmas.List.Elements.{All-push, Contains-push_cases}
-use Rattle.std.proofs.lemmas.List.Kept.{AllPairs-from_increasing}
+use Rattle.std.proofs.lemmas.List.Elements.{All-filter, All-push, Contains-push_cases}
+use Rattle.std.proofs.lemmas.List.Kept.{AllPairs-from_increasing, IsStrictlyIncreasing-filter}
 use Rattle.std.proofs.lemmas.List.Quantifiers.{all_pairs_push}
 use Rattle.std.proofs.lemmas.Option.{none-some}
 use Rattle.dn_act.specs.declared.actions.Action.{Action}
@@ -29,7 +29,7 @@ use Rattle.dn_waiting.proofs.Changes.{tasked_sound}
 use Rattle.dn_outcomes.specs.State.{World, done, with_event, with_waiting, is_made, on_lane, Done}
 use Rattle.dn_outcomes.specs.Does.{queues, adds_lane, adds}
 use Rattle.dn_outcomes.specs.declared.leaving.Leaving.{Leaving}
-use Rattle.dn_outcomes.specs.Orders.{leaves_by, release_at, release, orders_by, orders_of, monitor, may_order, gives_beside, give}
+use Rattle.dn_outcomes.specs.Orders.{leaves_by, release_at, release, fenced_by, unlive, orders_by, orders_of, monitor, may_order, gives_beside, give}
 use Rattle.dn_outcomes.specs.Steps.{flow_by, flow_at, flow, merges, merge}
 use Rattle.dn_outcomes.specs.Sound.{IsTake, TakesSo, view_at, AreMade, AreLive, IsWorld}
 use Rattle.dn_outcomes.specs.declared.outcomes.Outcome.TheVariants.{NoLane, LanesFull}
@@ -150,6 +150,17 @@ release_kept w (Some x) h = by_test (is_made w x.lane && nat_lt x.slot 64) refl 
   by_test true e = (let p = and_parts (is_made w x.lane) (nat_lt x.slot 64) e in release_at_kept w x (w.machine.lanes x.lane) h (made_lane w x.lane h p.0) (ltb-true x.slot 64 p.1))
   by_test false e = h
 
+unlive_kept : (w : World) (o : Option ℕ) → IsWorld w → IsWorld (unlive w o)
+unlive_kept w None h = h
+unlive_kept w (Some n) h = record {
+  machine = h.machine;
+  waiting = h.waiting;
+  calls = h.calls;
+  asked = h.asked;
+  made = h.made;
+  live = record { rising = IsStrictlyIncreasing-filter _ w.live h.live.rising; lanes = All-filter _ (λ (k : ℕ). (1 ≤ k) × (k ≤ w.made)) w.live h.live.lanes };
+}
+
 ordered_so : (w : World) (x : Monitoring) (action : Action) → IsWorld w → w.machine.monitor ≡ Some x → monitor_next x ≡ Some action → IsWorld (with_event w (Acts Monitor))
 ordered_so w x action h is e =
     let now : happens w.machine (Acts Monitor) ≡ monitor_does w.machine x (Some action) =
@@ -163,7 +174,8 @@ monitor_kept w h = by_order (w.machine.monitor) refl where
   by_action x None is e = h
   by_action x (Some action) is e =
       let word : ℕ = found w.machine action in
-      release_kept (with_event w (Acts Monitor)) (leaves_by (Some action) (monitor_turn x word) (monitor_next (monitor_after x word))) (ordered_so w x action h is e)
+      let o : Option Leaving = leaves_by (Some action) (monitor_turn x word) (monitor_next (monitor_after x word)) in
+      unlive_kept (release (with_event w (Acts Monitor)) o) (fenced_by (Some action)) (release_kept (with_event w (Acts Monitor)) o (ordered_so w x action h is e))
 
   by_order : (o : Option Monitoring) → w.machine.monitor ≡ o → IsWorld (orders_of w o).world
   by_order None is = h

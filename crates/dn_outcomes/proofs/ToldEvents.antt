@@ -20,7 +20,7 @@ use Rattle.dn_waiting.specs.State.{call_of, at_lane}
 use Rattle.dn_waiting.specs.Turns.{tasked}
 use Rattle.dn_outcomes.specs.Does.{queues, adds_lane, adds, tells_unless, tells, does}
 use Rattle.dn_outcomes.specs.declared.leaving.Leaving.{Leaving}
-use Rattle.dn_outcomes.specs.Orders.{leaves_by, release_at, release, told_by as monitor_told, orders_by, orders_of, monitor, may_order, gives_beside, give}
+use Rattle.dn_outcomes.specs.Orders.{leaves_by, release_at, release, fenced_by, unlive, told_by as monitor_told, orders_by, orders_of, monitor, may_order, gives_beside, give}
 use Rattle.dn_outcomes.specs.Sound.{MayHappen, IsWorld}
 use Rattle.dn_outcomes.specs.Starts.{session_at}
 use Rattle.dn_outcomes.specs.State.{World, Done, done, with_event, with_waiting, is_made, on_lane}
@@ -57,6 +57,10 @@ release_quiet w (Some x) = by_test (is_made w x.lane && nat_lt x.slot 64) where
   by_test true = release_at_quiet w x (w.machine.lanes x.lane)
   by_test false = calm_same w w refl refl
 
+unlive_calm : (w now : World) (o : Option ℕ) → IsCalm w now → IsCalm w (unlive now o)
+unlive_calm w now None h = h
+unlive_calm w now (Some n) h = record { quiet = h.quiet; calls = h.calls }
+
 monitor_outcome : (w now : World) (t : MonitorTurn) → IsCalm w now → IsTold w (done now (monitor_told t))
 monitor_outcome w now turn.More h = told_acted w now h
 monitor_outcome w now (turn.Answered answer) h = record { receipts = h.quiet; calls = calm_goes w now h; names = tt }
@@ -71,7 +75,8 @@ orders_told w x action is e =
     let v : World = with_event w (Acts Monitor) in
     let o : Option Leaving = leaves_by (Some action) (monitor_turn x word) (monitor_next (monitor_after x word)) in
     let r : IsCalm v (release v o) = release_quiet v o in
-    monitor_outcome w (release v o) (monitor_turn x word) (record { quiet = r.quiet ∙ ordered_quiet w x action is e; calls = r.calls })
+    monitor_outcome w (unlive (release v o) (fenced_by (Some action))) (monitor_turn x word)
+    (unlive_calm w (release v o) (fenced_by (Some action)) (record { quiet = r.quiet ∙ ordered_quiet w x action is e; calls = r.calls }))
 
 monitor_tells : (w : World) → IsTold w (monitor w)
 monitor_tells w = by_order w.machine.monitor refl where

@@ -1,6 +1,7 @@
-use Rattle.std.specs.Prelude.{ℕ, ◌-◌, ◌&&◌, Bool, true, false, List, Option, Some, None, nat_lt, if◌then◌else◌}
+use Rattle.std.specs.Prelude.{ℕ, ◌-◌, ◌==◌, ◌&&◌, not, Bool, true, false, List, Option, Some, None, nat_lt, if◌then◌else◌}
+use Rattle.std.specs.List.{filter}
 use Rattle.dn_word.specs.Deed.{deed_of}
-use Rattle.dn_word.specs.Regions.{deed_at}
+use Rattle.dn_word.specs.Regions.{gate_at, deed_at}
 use Rattle.dn_word.specs.declared.packed.deed.DeedState.{DeedState}
 use Rattle.dn_word.specs.declared.packed.deed.DeedState.TheVariants as state
 use Rattle.dn_act.specs.declared.actions.Action.{Action}
@@ -20,7 +21,7 @@ use Rattle.dn_outcomes.specs.declared.outcomes.Outcome.{Outcome}
 use Rattle.dn_outcomes.specs.declared.outcomes.Outcome.TheVariants.{Nothing, Acted, Ordered, MonitorBusy, NoLane}
 use Rattle.dn_outcomes.specs.State.{World, Done, done, with_event, with_waiting, is_made, is_live}
 
--- What the monitor does, and the releases that it leads to.
+-- What the monitor does, the releases that it leads to, and the lanes that it fences.
 
 -- ---- which release is to be queued
 abbrev pub asks_to_leave : DeedState → Bool
@@ -75,13 +76,27 @@ abbrev pub release : World → Option Leaving → World
 release w None = w
 release w (Some x) = if is_made w x.lane && nat_lt x.slot 64 then release_at w x (w.machine.lanes x.lane) else w
 
+-- ---- which lane is fenced: the one whose gate has got the bit
+abbrev pub fenced_by : Option Action → Option ℕ
+fenced_by None = None
+fenced_by (Some (Load at)) = None
+fenced_by (Some (Store at word)) = None
+fenced_by (Some (Cas at old new)) = None
+fenced_by (Some (Add at by)) = None
+fenced_by (Some (Or at bits)) = Some (at - gate_at 0)
+
+-- it is live no more
+abbrev pub unlive : World → Option ℕ → World
+unlive w None = w
+unlive w (Some n) = record w { live = filter (λ (k : ℕ). not (k == n)) w.live }
+
 -- ---- the monitor makes its next action
 abbrev pub told_by : MonitorTurn → Outcome
 told_by turn.More = Acted
 told_by (turn.Answered answer) = Ordered answer
 
 abbrev pub orders_to : World → Option Action → MonitorTurn → Monitoring → Done
-orders_to w action t x = done (release (with_event w (Acts Monitor)) (leaves_by action t (monitor_next x))) (told_by t)
+orders_to w action t x = done (unlive (release (with_event w (Acts Monitor)) (leaves_by action t (monitor_next x))) (fenced_by action)) (told_by t)
 
 abbrev pub orders_by : World → Monitoring → Option Action → Done
 orders_by w x None = done w Nothing

@@ -9,6 +9,8 @@ use Rattle.dn_world2.specs.State.{CrewState, world_of}
 use Rattle.dn_world2.proofs.Refreshing.{IsActed, acted_world}
 use Rattle.dn_world2.proofs.Changes.{is_done}
 use Rattle.dn_cluster.specs.State.{ClusterState}
+use Rattle.dn_route.specs.CallersOrder.{Told}
+use Rattle.dn_callers.specs.Callers.{Standing}
 use Rattle.dn_lane2.specs.State.{LaneState}
 use Rattle.dn_lane2.specs.declared.answers.Turn.{Turn}
 use Rattle.dn_lane2.specs.declared.answers.Turn.TheVariants.{More}
@@ -18,7 +20,7 @@ use Rattle.dn_monitor.specs.declared.orders.MonitorAnswer.TheVariants as told
 use Rattle.dn_monitor.specs.declared.orders.MonitorTurn.{MonitorTurn}
 use Rattle.dn_monitor.specs.declared.orders.MonitorTurn.TheVariants as monitoring
 use Rattle.dn_waiting.specs.Turns.{released}
-use Rattle.dn_outcomes.specs.Orders.{leaves_by, release_at, release, told_by as ordered_by, orders_by, orders_of, monitor}
+use Rattle.dn_outcomes.specs.Orders.{leaves_by, release_at, release, fenced_by, unlive, told_by as ordered_by, orders_by, orders_of, monitor}
 use Rattle.dn_outcomes.specs.declared.leaving.Leaving.{Leaving}
 use Rattle.dn_world2.specs.Gives.{next_by}
 use Rattle.dn_machine.specs.Events.{Monitor, ordered, of_monitor, monitor_does, happens, Merger, Acts, Flows, found, of_lane, of_merger, lane_flows, with_merger, acted as acted_by}
@@ -28,6 +30,7 @@ use Rattle.dn_cluster.specs.declared.actors.Acted.{Acted}
 use Rattle.dn_cluster.specs.declared.actors.Acted.TheVariants as acted
 use Rattle.dn_outcomes.specs.State.{World, Done, done, with_event, with_waiting, is_made}
 use Rattle.dn_outcomes.specs.Steps.{flow_by, flow_at, merges, told_by}
+use Rattle.dn_outcomes.specs.declared.outcomes.Outcome.{Outcome}
 use Rattle.dn_outcomes.specs.declared.outcomes.Outcome.TheVariants as outcome
 
 -- A staged word flows, or a merger makes its next action.
@@ -128,17 +131,18 @@ next_after w x action word = by (monitor_turn x word) (is_last (monitor_turn x w
 
 found_told : (w : World) (x : Monitoring) (p : Option Action) (t : MonitorTurn) (after : Option Monitoring) → acted.Monitor t ≡ monitor_found w.machine.words x p
     → (monitor_does w.machine x p).monitor ≡ after
-    → orders_by w x p ≡ done (release (with_event w (Acts Monitor)) (leaves_by p t (next_by after))) (ordered_by t)
+    → orders_by w x p ≡ done (unlive (release (with_event w (Acts Monitor)) (leaves_by p t (next_by after))) (fenced_by p)) (ordered_by t)
 found_told w x None t after e m = absurd (cc e)
 found_told w x (Some action) t after e m =
     let word : ℕ = found w.machine action in
     let same : monitor_turn x word ≡ t = cc in
     let k : World = with_event w (Acts Monitor) in
-    ap (λ (l : Option Leaving). done (release k l) (ordered_by (monitor_turn x word))) (next_after w x (Some action) word ∙ ap (λ (o : Option Monitoring). leaves_by (Some action) (monitor_turn x word) (next_by o)) m)
-    ∙ ap (λ (u : MonitorTurn). done (release k (leaves_by (Some action) u (next_by after))) (ordered_by u)) same
+    let f : Option ℕ = fenced_by (Some action) in
+    ap (λ (l : Option Leaving). done (unlive (release k l) f) (ordered_by (monitor_turn x word))) (next_after w x (Some action) word ∙ ap (λ (o : Option Monitoring). leaves_by (Some action) (monitor_turn x word) (next_by o)) m)
+    ∙ ap (λ (u : MonitorTurn). done (unlive (release k (leaves_by (Some action) u (next_by after))) f) (ordered_by u)) same
 
 pub monitored_as : (w : World) (o : Option Monitoring) (t : MonitorTurn) (after : Option Monitoring) → w.machine.monitor ≡ o → acted.Monitor t ≡ monitor_answer w.machine.words o → (happens w.machine (Acts Monitor)).monitor ≡ after
-    → monitor w ≡ done (release (with_event w (Acts Monitor)) (leaves_by (next_by o) t (next_by after))) (ordered_by t)
+    → monitor w ≡ done (unlive (release (with_event w (Acts Monitor)) (leaves_by (next_by o) t (next_by after))) (fenced_by (next_by o))) (ordered_by t)
 monitored_as w None t after is e m = absurd (cc e)
 monitored_as w (Some x) t after is e m =
     let so : happens w.machine (Acts Monitor) ≡ monitor_does w.machine x (monitor_next x) = ap (λ (o : Option Monitoring). of_monitor w.machine o (λ y. monitor_does w.machine y (monitor_next y))) is in
@@ -163,21 +167,26 @@ pub monitor_rests : (w : World) (o : Option Monitoring) (a : Acted) → ((turn :
 monitor_rests w None a h e = record { is = e; nothing = refl; same = refl }
 monitor_rests w (Some x) a h e = (let f = monitor_found_rests w x (monitor_next x) a h e in record { is = f.0; nothing = f.1; same = f.2 })
 
-pub record IsMonitored (words : List ℕ) (x : CrewState) (now : List ℕ) (k : ClusterState) (y : CrewState) (t : MonitorTurn) (l : Option Leaving) : Type 0 where
+pub record IsMonitored (words : List ℕ) (x : CrewState) (now : List ℕ) (k : ClusterState) (u y : CrewState) (t : MonitorTurn) (l : Option Leaving) (n : Option ℕ) : Type 0 where
   pub acts : IsActed words x now (record x { cluster = k }) [] (Acts Monitor)
   pub answer : acted.Monitor t ≡ monitor_answer words x.cluster.monitor
   pub leaves : l ≡ leaves_by (next_by x.cluster.monitor) t (next_by k.monitor)
-  pub releases : Turns (record x { cluster = k }) y (λ w. release w l)
+  pub fences : n ≡ fenced_by (next_by x.cluster.monitor)
+  pub releases : Turns (record x { cluster = k }) u (λ w. release w l)
+  pub unlives : Turns u y (λ w. unlive w n)
 
-pub monitor_done : (words : List ℕ) (x : CrewState) (now : List ℕ) (k : ClusterState) (y : CrewState) (t : MonitorTurn) (l : Option Leaving) → IsMonitored words x now k y t l → Carries words x now y (bare (ordered_by t)) monitor
-monitor_done words x now k y t l h = record {
+pub monitor_done : (words : List ℕ) (x : CrewState) (now : List ℕ) (k : ClusterState) (u y : CrewState) (t : MonitorTurn) (l : Option Leaving) (n : Option ℕ) → IsMonitored words x now k u y t l n → Carries words x now y (bare (ordered_by t)) monitor
+monitor_done words x now k u y t l n h = record {
   is = λ told receipts sound.
       let w : World = world_of words x told receipts in
       let b : World = world_of now (record x { cluster = k }) told (receipts ++ []) in
       let e : b ≡ with_event w (Acts Monitor) = acted_world words x now (record x { cluster = k }) [] (Acts Monitor) h.acts told receipts sound in
       let m : (happens w.machine (Acts Monitor)).monitor ≡ k.monitor = sym (ap (λ (z : World). z.machine.monitor) e) in
-      let r : monitor w ≡ done (release b l) (ordered_by t) = monitored_as w x.cluster.monitor t k.monitor refl h.answer m
-      ∙ ap (λ (z : World). done (release z (leaves_by (next_by x.cluster.monitor) t (next_by k.monitor))) (ordered_by t)) (sym e) ∙ ap (λ (o : Option Leaving). done (release b o) (ordered_by t)) (sym h.leaves) in
+      let f : Option ℕ = fenced_by (next_by x.cluster.monitor) in
+      let r : monitor w ≡ done (unlive (release b l) n) (ordered_by t) = monitored_as w x.cluster.monitor t k.monitor refl h.answer m
+      ∙ ap (λ (z : World). done (unlive (release z (leaves_by (next_by x.cluster.monitor) t (next_by k.monitor))) f) (ordered_by t)) (sym e) ∙ ap (λ (o : Option Leaving). done (unlive (release b o) f) (ordered_by t)) (sym h.leaves)
+      ∙ ap (λ (o : Option ℕ). done (unlive (release b l) o) (ordered_by t)) (sym h.fences) in
+      let s : world_of now y told (receipts ++ []) ≡ unlive (release b l) n = h.unlives.is now told (receipts ++ []) ∙ ap (λ (z : World). unlive z n) (h.releases.is now told (receipts ++ [])) in
       is_done words x now y (bare (ordered_by t)) monitor told receipts told
-      (ap (λ (z : Done). z.world) r ∙ sym (h.releases.is now told (receipts ++ []))) (sym (ap (λ (z : Done). z.outcome) r));
+      (ap (λ (z : Done). z.world) r ∙ sym s) (sym (ap (λ (z : Done). z.outcome) r));
 }

@@ -1,7 +1,7 @@
 //! A cluster with what waits for its lanes: everything of a world but the receipts that stand.
 
-ghost use Rattle.std.specs.Prelude.{◌≡◌, ◌≢◌, ◌==◌, ◌<◌, ◌≤◌, ◌-◌, ◌^◌, [], ℕ, List, Option, Some, None, true, false, length, IfOk, IfErr, IsSome, OnOk, OnErr};
-ghost use Rattle.std.specs.List.{list_any};
+ghost use Rattle.std.specs.Prelude.{◌≡◌, ◌≢◌, ◌==◌, ◌<◌, ◌≤◌, ◌-◌, ◌^◌, [], ℕ, not, List, Option, Some, None, true, false, length, IfOk, IfErr, IsSome, OnOk, OnErr};
+ghost use Rattle.std.specs.List.{list_any, filter};
 ghost use Rattle.std.specs.Option.{option_copied};
 ghost use Rattle.dn_route.specs.CallersOrder.{Told};
 ghost use Rattle.dn_callers.specs.Callers.{Standing};
@@ -12,7 +12,7 @@ ghost use Rattle.dn_outcomes.specs.Going.{goes_on, ends, told_of, end_of, slot_a
 ghost use Rattle.dn_outcomes.specs.Starts.{start, refresh, routes};
 ghost use Rattle.dn_outcomes.specs.State.{is_made, is_live, may_name, on_lane, with_event};
 ghost use Rattle.dn_outcomes.specs.Does.{queues, adds, tells};
-ghost use Rattle.dn_outcomes.specs.Orders.{monitor, release, may_order};
+ghost use Rattle.dn_outcomes.specs.Orders.{monitor, release, unlive, may_order};
 ghost use Rattle.dn_outcomes.specs.Steps.{step, acts, by_turn, flow, merge, told_by as merged_by};
 ghost use Rattle.dn_monitor.specs.Monitor.{IsOrder};
 ghost use Rattle.dn_waiting.specs.Sound.{IsLoading, Shows, IsLane};
@@ -29,7 +29,7 @@ ghost use Rattle.dn_world2.specs.Gives.{IsGivenBy, next_by};
 ghost use Rattle.dn_world2.specs.Happens.{MayBeGivenTo, HappensTo};
 ghost use Rattle.dn_world2.specs.Takes.{Takes, tends_at, tries_at, IsSessionOf};
 
-use crate::leaving::{leaves_by, told_by};
+use crate::leaving::{fenced_by, leaves_by, told_by};
 use crate::routes::{key_of, lane_or_none};
 use dn_act::{Action, Memory};
 use dn_cluster::{Acted, Actor, AddFault, Cluster};
@@ -438,6 +438,7 @@ impl Crew {
             Acted::Monitor(turn) => {
                 let leaving = leaves_by(action, turn, self.monitor_next());
                 self.release(leaving);
+                self.unlive(fenced_by(action));
                 told_by(turn)
             }
             Acted::Fault => Outcome::Fault {
@@ -483,6 +484,15 @@ impl Crew {
             return;
         }
         self.waiting.queue_release(lane, slot as u8);
+    }
+
+    /// A lane that is fenced is live no more.
+    fn unlive(&mut self, lane: Option<u32>)
+        ensures { Turns self.old self.new (λ w. unlive w lane) }
+    {
+        if let Some(lane) = lane {
+            leave_out(&mut self.live, lane);
+        }
     }
 
     /// The monitor is given an order.
@@ -581,6 +591,13 @@ fn holds(lanes: &[u8], lane: u8) -> bool
     ensures { result ≡ list_any (λ (n : ℕ). n == lane) lanes.now }
 {
     lanes.iter().any(|n| *n == lane)
+}
+
+/// Takes a lane out of these, if it is there.
+fn leave_out(lanes: &mut Vec<u8>, lane: u32)
+    ensures { lanes.new.items ≡ filter (λ (n : ℕ). not (n == lane)) lanes.old.items }
+{
+    lanes.retain(|n| *n as u32 != lane);
 }
 
 /// What a merger's turn is told as.

@@ -1,12 +1,12 @@
-//! Which release the monitor's actions lead to.
+//! Which release the monitor's actions lead to, and which lane they fence.
 
 ghost use Rattle.std.specs.Prelude.{◌≡◌};
-ghost use Rattle.dn_outcomes.specs.Orders.{asks_to_leave, leaving, asked_by, held_at, held_by, leaves_by, told_by};
+ghost use Rattle.dn_outcomes.specs.Orders.{asks_to_leave, leaving, asked_by, held_at, held_by, leaves_by, fenced_by, told_by};
 
 use dn_act::Action;
 use dn_monitor::{MonitorAnswer, MonitorTurn};
 use dn_outcomes::{Leaving, Outcome};
-use dn_word::regions::deed_at;
+use dn_word::regions::{deed_at, gate_at};
 use dn_word::{Deed, DeedState};
 
 /// Whether a deed in this state asks its lane to leave.
@@ -59,6 +59,16 @@ pub fn leaves_by(action: Option<Action>, turn: MonitorTurn, next: Option<Action>
         MonitorTurn::More => asked_by(action),
         MonitorTurn::Answered(MonitorAnswer::Held { deed }) => held_at(deed, next),
         MonitorTurn::Answered(_) => None,
+    }
+}
+
+/// The lane whose gate got the bit of a fence by an action of the monitor.
+pub fn fenced_by(action: Option<Action>) -> Option<u32>
+    ensures { result ≡ fenced_by action }
+{
+    match action {
+        Some(Action::Or { at, .. }) => Some(at.saturating_sub(gate_at(0))),
+        _ => None,
     }
 }
 

@@ -8,9 +8,10 @@ use Rattle.dn_cluster.specs.Acting.{failed, joined}
 use Rattle.dn_cluster.specs.Does.{Happens}
 use Rattle.dn_cluster.specs.declared.actors.Actor.TheVariants as actor
 use Rattle.dn_cluster.specs.declared.actors.Acted.{Acted}
-use Rattle.dn_outcomes.specs.Orders.{leaves_by, monitor, told_by}
+use Rattle.dn_outcomes.specs.Orders.{leaves_by, fenced_by, monitor, told_by}
+use Rattle.dn_outcomes.specs.declared.outcomes.Outcome.{Outcome}
 use Rattle.dn_outcomes.specs.declared.outcomes.Outcome.TheVariants as outcome
-use Rattle.dn_world2.specs.Comes.{has_failed}
+use Rattle.dn_world2.specs.Comes.{Carries, bare, has_failed}
 use Rattle.dn_world2.specs.Gives.{next_by}
 use Rattle.dn_world2.specs.Inside.{state_of}
 use Rattle.dn_world2.specs.State.{CrewState, world_of}
@@ -32,8 +33,8 @@ returns g c =
     let x : CrewState = state_of c.self.inside in
     elim c.match-act.branch [
       | in-Monitor w ↦ record {
-        came = λ _. carries_as words c.args.self.now x now c.match-act.self w.release.new.self c.match-act.result (told_by w.in-Monitor.turn) monitor c.self.view_is w.self-is (w.result-is ∙ w.told_by.ensures)
-            (monitor_done words x now c.act.new.self w.release.new.self w.in-Monitor.turn w.leaves_by-leaving.result (record {
+        came = λ _. carries_as words c.args.self.now x now c.match-act.self w.unlive.new.self c.match-act.result (told_by w.in-Monitor.turn) monitor c.self.view_is w.self-is (w.result-is ∙ w.told_by.ensures)
+            (monitor_done words x now c.act.new.self w.release.new.self w.unlive.new.self w.in-Monitor.turn w.leaves_by-leaving.result w.fenced_by.result (record {
               acts = record {
                 happens_so = w.in-Monitor.ensures.event refl;
                 segments = w.in-Monitor.ensures.segments;
@@ -45,7 +46,9 @@ returns g c =
               leaves = w.leaves_by-leaving.ensures
                   ∙ ap (λ (a : Option Action). leaves_by a w.in-Monitor.turn w.monitor_next.result) (c.monitor_next-action.ensures ∙ ap (λ (z : CrewState). next_by z.cluster.monitor) (sym c.self.view_is))
                   ∙ ap (λ (a : Option Action). leaves_by (next_by x.cluster.monitor) w.in-Monitor.turn a) w.monitor_next.ensures;
+              fences = w.fenced_by.ensures ∙ ap fenced_by (c.monitor_next-action.ensures ∙ ap (λ (z : CrewState). next_by z.cluster.monitor) (sym c.self.view_is));
               releases = w.release.ensures;
+              unlives = w.unlive.ensures;
             }));
         count = counts_done c.match-act.result _ _ (ap has_failed (w.result-is ∙ w.told_by.ensures) ∙ ordered_fine w.in-Monitor.turn) (w.in-Monitor.ensures.count.done refl);
       }
