@@ -1,4 +1,5 @@
-use Rattle.std.proofs.Common.{ℕ, zero, suc, ◌+◌, ◌≡◌, ◌≤◌, Bool, true, false, ◌&&◌, if◌then◌else◌, List, [], ◌∷◌, ◌++◌, Option, Some, None, replicate, nat_lt, nat_le, length, refl, sym, ◌∙◌, ap, subst, arith}
+use Rattle.std.proofs.Common.{ℕ, zero, suc, ◌+◌, ◌-◌, ◌≡◌, ◌≤◌, Bool, true, false, ◌&&◌, if◌then◌else◌, List, [], ◌∷◌, ◌++◌, Option, Some, None, replicate, nat_lt, nat_le, ◌<◌, slice_get, take, drop, length, refl, sym, ◌∙◌, ap, subst, arith}
+use Rattle.std.proofs.Math.Seq.{take-append_seam}
 use Rattle.std.proofs.lemmas.Bool.{le-leb, lt-ltb}
 use Rattle.dn_hist.specs.Calls.{Bytes}
 use Rattle.dn_model.specs.PoolMap.{HoldsMap}
@@ -12,12 +13,13 @@ use Rattle.dn_machine.specs.Runs.{after as run_on}
 use Rattle.dn_machine.specs.Sound.{IsSound}
 use Rattle.dn_machine.specs.State.{Machine}
 use Rattle.dn_cluster.specs.Machine.{machine_of}
-use Rattle.dn_cluster.specs.State.{ClusterState}
+use Rattle.dn_cluster.specs.State.{ClusterState, numbered}
 use Rattle.dn_drain.specs.Acted.{actions, HasActed}
-use Rattle.dn_drain.specs.All.{AreDrained, IsLaneFault}
-use Rattle.dn_drain.specs.Drained.{IsDrained, IsDrainFault, IsFullFault}
+use Rattle.dn_drain.specs.All.{AreDrained, IsLaneFault, AreMerged}
+use Rattle.dn_drain.specs.Drained.{IsDrained, IsFullFault, IsMerged}
 use Rattle.dn_drain.specs.declared.drains.DrainFault.{DrainFault}
 use Rattle.dn_drain.specs.declared.drains.DrainFault.TheVariants as drain
+use Rattle.dn_drain.specs.declared.drains.Merged.{Merged}
 use Rattle.dn_drain.specs.declared.every.LaneFault.{LaneFault}
 use Rattle.dn_outcomes.specs.Does.{does}
 use Rattle.dn_outcomes.specs.Effects.{Effect}
@@ -31,10 +33,10 @@ use Rattle.dn_outcomes.specs.declared.outcomes.Outcome.TheVariants.{NoLane}
 use Rattle.dn_outcomes.proofs.Effects.{EffectOf}
 use Rattle.dn_outcomes.proofs.EffectEvents.{effect}
 use Rattle.dn_outcomes.proofs.Kept.{kept, runs}
-use Rattle.dn_world2.specs.Finishes.{AreMerges, IsFinished, Finishes, IsFullAt, IsFinishFault, fault_by}
+use Rattle.dn_world2.specs.Finishes.{AreMerges, IsFinished, Finishes, IsAt, IsFinishFault, fault_by, ended_at, ended_by, HasEnded, HaveEnded}
 use Rattle.dn_world2.specs.Happens.{CanBeSound}
 use Rattle.dn_world2.specs.State.{WorldState, world_of}
-use Rattle.dn_world2.proofs.Changes.{same_world}
+use Rattle.dn_world2.proofs.Changes.{same_world, where_true}
 use Rattle.dn_world2.proofs.Stepping.{on_made}
 
 -- The mergers act, lane after lane.
@@ -188,13 +190,42 @@ fault_acted words c n lane left now b d end next h k =
 
 pub faulted : (words : List ℕ) (w : WorldState) (now : List ℕ) (v : WorldState) (at : LaneFault) → CanBeSound words w → Stays w v → IsLaneFault words w.crew.cluster now v.crew.cluster at → IsFullFault now at.lane at.fault
     → IsFinishFault words w now v (fault_by at.fault)
-faulted words w now v at can stays h full = by_fault at.fault h.fault full where
-  by_fault : (k : DrainFault) → IsDrainFault h.left h.cluster now v.crew.cluster at.lane k → IsFullFault now at.lane k → IsFinishFault words w now v (fault_by k)
-  by_fault drain.Pool e f = tt
+faulted words w now v at can stays h full = by_fault at.fault h full where
+  by_fault : (k : DrainFault) → IsAt words w now v at.lane k → IsFullFault now at.lane k → IsFinishFault words w now v (fault_by k)
+  by_fault drain.Pool e f = record { lane = at.lane; at = e }
   by_fault (drain.IndexFull counter) e f = record {
     lane = at.lane;
-    least = h.made.0;
-    most = omega (arith, h.made.1, stays.lanes);
-    finishes = finished words w now v at.lane can stays (omega (arith, h.made.1, stays.lanes)) (fault_acted words w.crew.cluster h.before at.lane h.left now h.cluster v.crew.cluster (turn.IndexFull counter) h.next h.drained e);
+    at = e;
+    finishes = finished words w now v at.lane can stays (omega (arith, e.made.1, stays.lanes))
+        (fault_acted words w.crew.cluster e.before at.lane e.left now e.cluster v.crew.cluster (turn.IndexFull counter) e.next e.drained e.fault);
     full = f;
   }
+
+-- ---- what each lane has ended with
+-- as many as there is place for
+pub filled : (n : ℕ) (xs ys : List Merged) → length xs ≡ n → take n (xs ++ drop (length xs) ys) ≡ xs
+filled n xs ys e = ap (λ (k : ℕ). take k (xs ++ drop (length xs) ys)) (sym e) ∙ take-append_seam xs (drop (length xs) ys)
+
+got : {A : Type 0} (xs : List A) (k : ℕ) → k < length xs → (x : A) × (slice_get xs k ≡ Some x)
+got [] k lt = absurd (omega (arith, lt))
+got (x ∷ xs) zero lt = (x, refl)
+got (x ∷ xs) (suc k) lt = got xs k (omega (arith, lt))
+
+numbered_is : (ended : List Merged) (k : ℕ) → numbered ended (k + 1) ≡ slice_get ended k
+numbered_is ended k =
+    let same : k + 1 - 1 ≡ k = omega arith in
+    where_true (nat_lt 0 (k + 1)) (slice_get ended (k + 1 - 1)) None (lt-ltb 0 (k + 1) (omega arith)) ∙ ap (λ (i : ℕ). slice_get ended i) same
+
+has_ended : (words : List ℕ) (n k : ℕ) (ended : List Merged) → AreMerged words n ended → length ended ≡ n → k < n → HasEnded words (k + 1) (ended_at ended (k + 1))
+has_ended words n k ended h many lt =
+    let x = got ended k (omega (arith, lt, many)) in
+    let m : IsMerged words (k + 1) x.0 = h.each k x.0 lt x.1 in
+    subst (λ (e : ℕ × ℕ). HasEnded words (k + 1) e) (sym (ap ended_by (numbered_is ended k ∙ x.1))) (record { gate_is = m.gate_is; mark_is = m.mark_is; all = m.all })
+
+pub have_ended : (words : List ℕ) (n : ℕ) (ended : List Merged) → AreMerged words n ended → length ended ≡ n → HaveEnded words n ended
+have_ended words n ended h many = record { each = λ k one most. each k one most } where
+  each : (k : ℕ) → 1 ≤ k → k ≤ n → HasEnded words k (ended_at ended k)
+  each zero one most = absurd (omega (arith, one))
+  each (suc k) one most =
+      let next : k + 1 ≡ suc k = omega arith in
+      subst (λ (i : ℕ). HasEnded words i (ended_at ended i)) next (has_ended words n k ended h many (omega (arith, most)))

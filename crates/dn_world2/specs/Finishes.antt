@@ -1,7 +1,11 @@
-use Rattle.std.specs.Prelude.{◌≡◌, ◌≤◌, ◌<◌, ℕ, zero, suc, ◌+◌, List, [], ◌++◌, Option, Some, None, replicate, length}
+use Rattle.std.specs.Prelude.{◌≡◌, ◌≤◌, ◌<◌, ℕ, zero, suc, ◌+◌, List, [], ◌++◌, Option, Some, None, replicate}
 use Rattle.dn_hist.specs.Calls.{Bytes}
 use Rattle.dn_model.specs.PoolMap.{HoldsMap}
+use Rattle.dn_word.specs.Gate.{gate_of}
+use Rattle.dn_act.specs.Words.{word_at}
+use Rattle.dn_model.specs.Regions.{gate_at, mark_at}
 use Rattle.dn_cluster.specs.State.{numbered}
+use Rattle.dn_drain.specs.All.{IsLaneFault}
 use Rattle.dn_drain.specs.Drained.{IsFull}
 use Rattle.dn_drain.specs.declared.drains.DrainFault.{DrainFault}
 use Rattle.dn_drain.specs.declared.drains.DrainFault.TheVariants as drain
@@ -37,16 +41,24 @@ pub record Finishes (words : List ℕ) (w : WorldState) (now : List ℕ) (v : Wo
   pub map : (held : Bytes) → HoldsMap words held → HoldsMap now held
 
 -- ---- faults
--- the index is full, by the last action of this lane's merger
+-- this lane isn't drained, and all before it are
+abbrev pub IsAt : List ℕ → WorldState → List ℕ → WorldState → ℕ → DrainFault → Type 0
+IsAt words w now v lane why = IsLaneFault words w.crew.cluster now v.crew.cluster (record { lane = lane; fault = why })
+
+-- the access of an action of its merger failed
+pub record IsPoolAt (words : List ℕ) (w : WorldState) (now : List ℕ) (v : WorldState) : Type 0 where
+  pub lane : ℕ
+  pub at : IsAt words w now v lane drain.Pool
+
+-- the index is full, by the last action of its merger
 pub record IsFullAt (words : List ℕ) (w : WorldState) (now : List ℕ) (v : WorldState) (counter : ℕ) : Type 0 where
   pub lane : ℕ
-  pub least : 1 ≤ lane
-  pub most : lane ≤ length w.crew.cluster.nodes
+  pub at : IsAt words w now v lane (drain.IndexFull counter)
   pub finishes : Finishes words w now v lane
   pub full : IsFull now lane counter
 
 abbrev pub IsFinishFault : List ℕ → WorldState → List ℕ → WorldState → FinishFault → Type 0
-IsFinishFault words w now v fault.Pool = Unit {0}
+IsFinishFault words w now v fault.Pool = IsPoolAt words w now v
 IsFinishFault words w now v (fault.IndexFull counter) = IsFullAt words w now v counter
 IsFinishFault words w now v fault.OutOfMemory = (now ≡ words) × (v ≡ w)
 
@@ -67,3 +79,13 @@ ended_by (Some merged) = (merged.gate, merged.mark)
 
 abbrev pub ended_at : List Merged → ℕ → ℕ × ℕ
 ended_at ended n = ended_by (numbered ended n)
+
+-- The pool has these words for lane n, and they name one length: all that the lane has sealed is merged.
+pub record HasEnded (words : List ℕ) (n : ℕ) (ended : ℕ × ℕ) : Type 0 where
+  pub gate_is : word_at words (gate_at n) ≡ ended.0
+  pub mark_is : word_at words (mark_at n) ≡ ended.1
+  pub all : (gate_of ended.0).len ≡ ended.1
+
+-- so it is of lanes 1 to n
+pub record HaveEnded (words : List ℕ) (n : ℕ) (ended : List Merged) : Type 0 where
+  pub each : (k : ℕ) → 1 ≤ k → k ≤ n → HasEnded words k (ended_at ended k)

@@ -2,9 +2,9 @@ ghost use Rattle.std.specs.Prelude.{◌≡◌, ◌<◌, ◌^◌, ℕ, List, [], 
 ghost use Rattle.dn_outcomes.specs.declared.events.Event.{Event as Given};
 ghost use Rattle.dn_world2.specs.Comes.{OnDone, CountsFault};
 ghost use Rattle.dn_drain.specs.Acted.{LeavesActors};
-ghost use Rattle.dn_drain.specs.All.{AreDrained, AreMerged};
+ghost use Rattle.dn_drain.specs.All.{AreDrained};
 ghost use Rattle.dn_drain.specs.Leaves.{LeavesLogs};
-ghost use Rattle.dn_world2.specs.Finishes.{Finishes, IsFinishFault, CountsFinish, ended_at};
+ghost use Rattle.dn_world2.specs.Finishes.{Finishes, IsFinishFault, CountsFinish, HaveEnded, ended_at};
 ghost use Rattle.dn_world2.specs.Happens.{CanBeSound, MayBeGiven, Happens};
 
 use crate::crews::{Came, Crew};
@@ -88,7 +88,7 @@ impl World {
             (length self.old.crew.cluster.nodes)) }
         ensures drained { OnOk result (AreDrained (M.words mem.old) self.old.crew.cluster
             (length self.old.crew.cluster.nodes) (M.words mem.new) self.new.crew.cluster) }
-        ensures merged { OnOk result (AreMerged (M.words mem.new)
+        ensures ended { OnOk result (HaveEnded (M.words mem.new)
             (length self.old.crew.cluster.nodes) self.new.ended) }
         ensures places { OnOk result (length self.new.ended ≡ length self.old.crew.cluster.nodes) }
         ensures fault { IfErr result (IsFinishFault (M.words mem.old) self.old (M.words mem.new)

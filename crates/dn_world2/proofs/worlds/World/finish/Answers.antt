@@ -1,11 +1,13 @@
-use Rattle.std.proofs.Common.{ℕ, ◌≡◌, ◌≤◌, List, map, length, refl, sym, subst, arith}
+use Rattle.std.proofs.Common.{rules, ℕ, ◌≡◌, ◌≤◌, List, map, length, refl, sym, subst, arith}
 use Rattle.std.specs.Vec.{with_items}
-use Rattle.dn_world2.specs.Finishes.{Finishes, IsFinishFault, fault_by}
+use Rattle.dn_drain.specs.All.{AreMerged}
+use Rattle.dn_drain.specs.declared.drains.Merged.{Merged}
+use Rattle.dn_world2.specs.Finishes.{Finishes, HaveEnded, IsFinishFault, fault_by}
 use Rattle.dn_world2.specs.Happens.{CanBeSound}
 use Rattle.dn_world2.specs.Inside.{stands_as, world_in}
 use Rattle.dn_world2.specs.State.{WorldState}
 use Rattle.dn_world2.specs.declared.finishes.FinishFault.{FinishFault}
-use Rattle.dn_world2.proofs.Finishing.{Stays, finished, faulted, drained_acted}
+use Rattle.dn_world2.proofs.Finishing.{Stays, finished, faulted, drained_acted, filled, have_ended}
 use Rattle.dn_world2.proofs.worlds.World.finish.Goals as goal
 
 pub returns-in-Ok-drain-clause-finishes : goal.returns-in-Ok-drain-clause-finishes
@@ -30,3 +32,14 @@ returns-in-Err-clause-fault g c =
     (faulted words w now v c.in-Err.at (subst (λ (x : WorldState). CanBeSound words x) (sym c.self.view_is) c.requires.can)
     (record { segments = c.drain.ensures.segments; lanes = c.drain.ensures.lanes; waiting = c.drain.ensures.waiting; live = c.drain.ensures.live; history = refl })
     c.in-Err.ensures.fault c.in-Err.ensures.full))
+
+pub returns-in-Ok-drain-clause-ended : goal.returns-in-Ok-drain-clause-ended
+returns-in-Ok-drain-clause-ended g c =
+    let now : List ℕ = g.M.Memory.words c.drain.new.mem in
+    let n : ℕ = length c.args.self.now.crew.cluster.nodes in
+    let ended : List Merged = (with_items c.in-Ok.ended c.drain.new.ended).items in
+    let many : length c.drain.new.ended ≡ c.in-Ok.ended.len = omega (arith, c.drain.auto.ended, c.deref_mut.ensures.len) in
+    let same : ended ≡ c.drain.new.ended = filled c.in-Ok.ended.len c.drain.new.ended c.in-Ok.ended.items many in
+    have_ended now n ended
+    (subst (λ (xs : List Merged). AreMerged now n xs) (sym same) (subst (λ (x : WorldState). AreMerged now (length x.crew.cluster.nodes) c.drain.new.ended) c.self.view_is c.in-Ok-drain.ensures.merged))
+    (search rules)
