@@ -25,7 +25,7 @@ use Rattle.dn_outcomes.specs.Does.{does}
 use Rattle.dn_outcomes.specs.Effects.{Effect}
 use Rattle.dn_outcomes.specs.Runs.{after, IsRun}
 use Rattle.dn_outcomes.specs.Sound.{IsWorld}
-use Rattle.dn_outcomes.specs.State.{World, Done, done, with_event, is_made, on_lane}
+use Rattle.dn_outcomes.specs.State.{World, Done, done, with_event, is_made}
 use Rattle.dn_outcomes.specs.Steps.{told_by, merges, merge}
 use Rattle.dn_outcomes.specs.declared.events.Event.{Event}
 use Rattle.dn_outcomes.specs.declared.events.Event.TheVariants as event
@@ -33,7 +33,7 @@ use Rattle.dn_outcomes.specs.declared.outcomes.Outcome.TheVariants.{NoLane}
 use Rattle.dn_outcomes.proofs.Effects.{EffectOf}
 use Rattle.dn_outcomes.proofs.EffectEvents.{effect}
 use Rattle.dn_outcomes.proofs.Kept.{kept, runs}
-use Rattle.dn_world2.specs.Finishes.{AreMerges, IsFinished, Finishes, IsAt, IsFinishFault, fault_by, ended_at, ended_by, HasEnded, HaveEnded}
+use Rattle.dn_world2.specs.Finishes.{AreMerges, Finishes, IsAt, IsFinishFault, fault_by, ended_at, ended_by, HasEnded, HaveEnded}
 use Rattle.dn_world2.specs.Happens.{CanBeSound}
 use Rattle.dn_world2.specs.State.{WorldState, world_of}
 use Rattle.dn_world2.proofs.Changes.{same_world, where_true}
@@ -158,27 +158,27 @@ finished words w now v n can stays le h =
     let merged : AreMerges n es = are_merges words w.crew.cluster n now v.crew.cluster h in
     let so : (told : List Told) → IsWorld (world_of words w.crew told w.history) → world_of now v.crew told v.history ≡ after (world_of words w.crew told w.history) es =
     λ told sound.
-      let b : World = world_of words w.crew told w.history in
-      same_world (world_of now v.crew told v.history) (with_machine b (machine_of now v.crew.cluster told w.history)) (record {
-        segments = stays.segments;
-        made = stays.lanes;
-        machine = ap (λ (rs : List Standing). machine_of now v.crew.cluster told rs) stays.history;
-        waiting = stays.waiting;
-        live = stays.live;
-      })
-      ∙ sym (acted_run b words w.crew.cluster n now v.crew.cluster told w.history le h sound.machine) in
+    let b : World = world_of words w.crew told w.history in
+    same_world (world_of now v.crew told v.history) (with_machine b (machine_of now v.crew.cluster told w.history)) (record {
+      segments = stays.segments;
+      made = stays.lanes;
+      machine = ap (λ (rs : List Standing). machine_of now v.crew.cluster told rs) stays.history;
+      waiting = stays.waiting;
+      live = stays.live;
+    })
+    ∙ sym (acted_run b words w.crew.cluster n now v.crew.cluster told w.history le h sound.machine) in
     record {
       es = es;
       merges = merged;
       is = λ told sound.
-        let b : World = world_of words w.crew told w.history in
-        record {
-          world = so told sound;
-          sound = subst IsWorld (sym (so told sound)) (runs b es sound (are_may n es b merged));
-        };
+          let b : World = world_of words w.crew told w.history in
+          record {
+            world = so told sound;
+            sound = subst IsWorld (sym (so told sound)) (runs b es sound (are_may n es b merged));
+          };
       map = λ held holds.
-        let b : World = world_of words w.crew can.told w.history in
-        subst (λ (x : World). HoldsMap x.machine.words held) (sym (so can.told can.sound)) (are_map n es b held merged can.sound holds);
+          let b : World = world_of words w.crew can.told w.history in
+          subst (λ (x : World). HoldsMap x.machine.words held) (sym (so can.told can.sound)) (are_map n es b held merged can.sound holds);
     }
 
 -- the last of them ended at a full index

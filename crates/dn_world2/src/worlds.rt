@@ -70,18 +70,18 @@ impl World {
         Ok(outcome)
     }
 
-    /// Ends a world: runs the merger of each lane that was made until all is merged that the lane has sealed, lanes in the
-    /// order of their numbers, as `drain_all` of `dn_drain` does. Nobody else acts. So a call without an answer gets none, and
-    /// a word that is staged doesn't reach the pool. What happens is a run of events `Merge`; the world is sound after it, and
-    /// the words hold the map that they held.
+    /// Ends a world: the merger of each lane that was made acts until all is merged that the lane has sealed, up to its first
+    /// answer of that by a gate which was loaded in this call; lanes in the order of their numbers. Nobody else acts: a call
+    /// without an answer gets none, and a staged word doesn't reach the pool. All that happens is a run of events `Merge`. The
+    /// world is sound after it with what was told before, and the words hold the map that they held.
     ///
-    /// `IndexFull` comes where a merger finds no bucket left, at the first lane of which that is so; its counter is at least
-    /// 4,096. The world is sound after it too, by the events `Merge` up to that lane. `Pool` comes exactly where an access
-    /// failed; then the action was done or not done, and nothing is said of the world after it but what stays. `OutOfMemory`
+    /// `IndexFull` comes exactly where a merger answers so, and ends it; `counter` is at least 4,096. The world is as after
+    /// the events `Merge` up to that one: sound, with the same map. `Pool` comes exactly where an access failed; then the
+    /// mergers are as before that action, which was done or not done, and the world is not known to be sound. `OutOfMemory`
     /// comes before any action, and changes nothing.
     ///
-    /// Whatever comes, the world stays but for mergers and what [`World::ended`] tells, and all words but the lanes' marks,
-    /// the overflow counter and the index.
+    /// Whatever comes, receipts, what waits, live lanes, sessions, lanes and the monitor stay, and all words but the lanes'
+    /// merged marks, the overflow counter and the index. After a fault [`World::ended`] tells what it did before.
     pub fn finish<M: Memory>(&mut self, mem: &mut M) -> Result<(), FinishFault>
         requires can { CanBeSound (M.words mem.old) self.old }
         ensures finishes { OnOk result (Finishes (M.words mem.old) self.old (M.words mem.new) self.new

@@ -1,13 +1,13 @@
-use Rattle.std.proofs.Common.{rules, ℕ, ◌≡◌, ◌≤◌, List, map, length, refl, sym, subst, arith}
+use Rattle.std.proofs.Common.{rules, ℕ, ◌≡◌, List, map, length, refl, sym, subst, arith}
 use Rattle.std.specs.Vec.{with_items}
 use Rattle.dn_drain.specs.All.{AreMerged}
 use Rattle.dn_drain.specs.declared.drains.Merged.{Merged}
-use Rattle.dn_world2.specs.Finishes.{Finishes, HaveEnded, IsFinishFault, fault_by}
+use Rattle.dn_world2.specs.Finishes.{Finishes, IsFinishFault}
 use Rattle.dn_world2.specs.Happens.{CanBeSound}
 use Rattle.dn_world2.specs.Inside.{stands_as, world_in}
 use Rattle.dn_world2.specs.State.{WorldState}
 use Rattle.dn_world2.specs.declared.finishes.FinishFault.{FinishFault}
-use Rattle.dn_world2.proofs.Finishing.{Stays, finished, faulted, drained_acted, filled, have_ended}
+use Rattle.dn_world2.proofs.Finishing.{finished, faulted, drained_acted, filled, have_ended}
 use Rattle.dn_world2.proofs.worlds.World.finish.Goals as goal
 
 pub returns-in-Ok-drain-clause-finishes : goal.returns-in-Ok-drain-clause-finishes
