@@ -2,6 +2,7 @@ use Rattle.std.proofs.Common.{ℕ, ◌≡◌, ◌++◌, ◌∷◌, [], List, Opt
 use Rattle.std.proofs.lemmas.List.{append-nil, map-append}
 use Rattle.dn_hist.specs.declared.receipts.Receipt.{Receipt}
 use Rattle.dn_callers.specs.Callers.{Standing}
+use Rattle.dn_drain.specs.declared.drains.Merged.{Merged}
 use Rattle.dn_outcomes.specs.Does.{does}
 use Rattle.dn_outcomes.specs.declared.events.Event.{Event}
 use Rattle.dn_outcomes.proofs.Kept.{kept}
@@ -14,9 +15,9 @@ use Rattle.dn_world2.specs.declared.worlds.Standing.{Standing as Kept}
 
 -- A world keeps the receipts that stand.
 
-pub world_happens : (words : List ℕ) (x : CrewState) (now : List ℕ) (y : CrewState) (came : Came) (e : Event) (h now_stands : List Standing) → now_stands ≡ h ++ joining came.receipt → HappensTo words x now y came e
-    → Happens words (record { crew = x; history = h }) now (record { crew = y; history = now_stands }) e came.outcome
-world_happens words x now y came e h now_stands joined done = record {
+pub world_happens : (words : List ℕ) (x : CrewState) (now : List ℕ) (y : CrewState) (came : Came) (e : Event) (h now_stands : List Standing) (ended now_ended : List Merged) → now_stands ≡ h ++ joining came.receipt → HappensTo words x now y came e
+    → Happens words (record { crew = x; history = h; ended = ended }) now (record { crew = y; history = now_stands; ended = now_ended }) e came.outcome
+world_happens words x now y came e h now_stands ended now_ended joined done = record {
   heirs = done.heirs;
   is = λ told sound.
       let it = done.is told h sound in

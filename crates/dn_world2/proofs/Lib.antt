@@ -9,4 +9,5 @@ pub mod Stepping
 pub mod Others
 pub mod Giving
 pub mod Events
+pub mod Finishing
 pub mod History

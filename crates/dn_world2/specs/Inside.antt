@@ -13,4 +13,4 @@ abbrev pub stands_as : Standing → Stands
 stands_as x = record { receipt = x.receipt; answered = x.answered }
 
 abbrev pub world_in : WithHistory → WorldState
-world_in i = record { crew = i.crew; history = map stands_as i.standing.items }
+world_in i = record { crew = i.crew; history = map stands_as i.standing.items; ended = i.ended.items }

@@ -3,6 +3,7 @@ use Rattle.dn_route.specs.CallersOrder.{Told}
 use Rattle.dn_callers.specs.Callers.{Standing}
 use Rattle.dn_cluster.specs.Machine.{machine_of}
 use Rattle.dn_cluster.specs.State.{ClusterState}
+use Rattle.dn_drain.specs.declared.drains.Merged.{Merged}
 use Rattle.dn_waiting.specs.State.{WaitingState}
 use Rattle.dn_outcomes.specs.State.{World}
 
@@ -22,7 +23,8 @@ world_of words x told receipts = record {
   live = x.live;
 }
 
--- a crew, and the receipts that stand
+-- a crew, the receipts that stand, and what the last drain of each lane ended with, by their numbers
 pub record WorldState : Type 0 where
   pub crew : CrewState
   pub history : List Standing
+  pub ended : List Merged

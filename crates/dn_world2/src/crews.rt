@@ -27,12 +27,17 @@ ghost use Rattle.dn_world2.specs.State.{CrewState, world_of};
 ghost use Rattle.dn_world2.specs.Comes.{CanBeWorld, Can, Turns, Moves, Carries, Comes, bare, OnDone, CountsFault, has_failed};
 ghost use Rattle.dn_world2.specs.Gives.{IsGivenBy, next_by};
 ghost use Rattle.dn_world2.specs.Happens.{MayBeGivenTo, HappensTo};
+ghost use Rattle.dn_drain.specs.Acted.{LeavesActors};
+ghost use Rattle.dn_drain.specs.All.{AreDrained, AreMerged, IsLaneFault};
+ghost use Rattle.dn_drain.specs.Drained.{IsFullFault, CountsPool};
+ghost use Rattle.dn_drain.specs.Leaves.{LeavesLogs};
 ghost use Rattle.dn_world2.specs.Takes.{Takes, tends_at, tries_at, IsSessionOf};
 
 use crate::leaving::{fenced_by, leaves_by, told_by};
 use crate::routes::{key_of, lane_or_none};
 use dn_act::{Action, Memory};
 use dn_cluster::{Acted, Actor, AddFault, Cluster};
+use dn_drain::{LaneFault, Merged, drain_all};
 use dn_hist::{Call, Receipt, SessionView};
 use dn_lane2::{Answer, Refuse, Turn};
 use dn_merge::MergeTurn;
@@ -119,6 +124,37 @@ impl Crew {
             Event::Tell { from, to } => self.tell(from, to),
         };
         Ok(bare(outcome))
+    }
+
+    /// How many lanes were made.
+    pub fn made(&self) -> u8
+        ensures { result ≡ length self.now.cluster.nodes }
+    {
+        self.cluster.lanes()
+    }
+
+    /// Drains each lane that was made, in the order of their numbers, up to the first fault. `ended` has a place for each.
+    pub fn drain<M: Memory>(&mut self, mem: &mut M, ended: &mut [Merged]) -> Result<(), LaneFault>
+        requires sound { CanBeSound (M.words mem.old) self.old.cluster }
+        requires places { length ended.old ≡ length self.old.cluster.nodes }
+        ensures drained { OnOk result (AreDrained (M.words mem.old) self.old.cluster
+            (length self.old.cluster.nodes) (M.words mem.new) self.new.cluster) }
+        ensures merged { OnOk result (AreMerged (M.words mem.new) (length self.old.cluster.nodes)
+            ended.new) }
+        ensures fault { IfErr result (IsLaneFault (M.words mem.old) self.old.cluster
+            (M.words mem.new) self.new.cluster) }
+        ensures full { IfErr result (λ at. IsFullFault (M.words mem.new) at.lane at.fault) }
+        ensures words { LeavesLogs (M.words mem.old) (M.words mem.new) }
+        ensures actors { LeavesActors self.old.cluster self.new.cluster }
+        ensures segments { self.new.cluster.segments ≡ self.old.cluster.segments }
+        ensures lanes { length self.new.cluster.nodes ≡ length self.old.cluster.nodes }
+        ensures waiting { self.new.waiting ≡ self.old.waiting }
+        ensures live { self.new.live ≡ self.old.live }
+        ensures count { OnOk result (M.faults mem.new ≡ M.faults mem.old) }
+        ensures faults { IfErr result (λ at. CountsPool (M.faults mem.old) (M.faults mem.new)
+            at.fault) }
+    {
+        drain_all(&mut self.cluster, mem, ended)
     }
 
     /// Whether a lane with this number was made.

@@ -6,8 +6,10 @@
 #![tactic(auto)]
 
 mod crews;
+mod finishes;
 mod leaving;
 mod routes;
 mod worlds;
 
+pub use finishes::FinishFault;
 pub use worlds::{Standing, World};
