@@ -9,8 +9,6 @@ use Rattle.dn_world2.specs.State.{CrewState, world_of}
 use Rattle.dn_world2.proofs.Refreshing.{IsActed, acted_world}
 use Rattle.dn_world2.proofs.Changes.{is_done}
 use Rattle.dn_cluster.specs.State.{ClusterState}
-use Rattle.dn_route.specs.CallersOrder.{Told}
-use Rattle.dn_callers.specs.Callers.{Standing}
 use Rattle.dn_lane2.specs.State.{LaneState}
 use Rattle.dn_lane2.specs.declared.answers.Turn.{Turn}
 use Rattle.dn_lane2.specs.declared.answers.Turn.TheVariants.{More}
@@ -30,7 +28,6 @@ use Rattle.dn_cluster.specs.declared.actors.Acted.{Acted}
 use Rattle.dn_cluster.specs.declared.actors.Acted.TheVariants as acted
 use Rattle.dn_outcomes.specs.State.{World, Done, done, with_event, with_waiting, is_made}
 use Rattle.dn_outcomes.specs.Steps.{flow_by, flow_at, merges, told_by}
-use Rattle.dn_outcomes.specs.declared.outcomes.Outcome.{Outcome}
 use Rattle.dn_outcomes.specs.declared.outcomes.Outcome.TheVariants as outcome
 
 -- A staged word flows, or a merger makes its next action.

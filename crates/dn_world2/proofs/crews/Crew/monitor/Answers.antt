@@ -9,9 +9,8 @@ use Rattle.dn_cluster.specs.Does.{Happens}
 use Rattle.dn_cluster.specs.declared.actors.Actor.TheVariants as actor
 use Rattle.dn_cluster.specs.declared.actors.Acted.{Acted}
 use Rattle.dn_outcomes.specs.Orders.{leaves_by, fenced_by, monitor, told_by}
-use Rattle.dn_outcomes.specs.declared.outcomes.Outcome.{Outcome}
 use Rattle.dn_outcomes.specs.declared.outcomes.Outcome.TheVariants as outcome
-use Rattle.dn_world2.specs.Comes.{Carries, bare, has_failed}
+use Rattle.dn_world2.specs.Comes.{has_failed}
 use Rattle.dn_world2.specs.Gives.{next_by}
 use Rattle.dn_world2.specs.Inside.{state_of}
 use Rattle.dn_world2.specs.State.{CrewState, world_of}
