@@ -84,8 +84,8 @@ impl World {
     /// merged marks, the overflow counter and the index. After a fault [`World::ended`] tells what it did before.
     pub fn finish<M: Memory>(&mut self, mem: &mut M) -> Result<(), FinishFault>
         requires can { CanBeSound (M.words mem.old) self.old }
-        ensures finishes { OnOk result (Finishes (M.words mem.old) self.old (M.words mem.new) self.new
-            (length self.old.crew.cluster.nodes)) }
+        ensures finishes { OnOk result (Finishes (M.words mem.old) self.old (M.words mem.new)
+            self.new (length self.old.crew.cluster.nodes)) }
         ensures drained { OnOk result (AreDrained (M.words mem.old) self.old.crew.cluster
             (length self.old.crew.cluster.nodes) (M.words mem.new) self.new.crew.cluster) }
         ensures ended { OnOk result (HaveEnded (M.words mem.new)
