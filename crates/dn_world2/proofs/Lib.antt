@@ -11,3 +11,4 @@ pub mod Giving
 pub mod Events
 pub mod Finishing
 pub mod History
+pub mod Playing

@@ -1,0 +1,208 @@
+//! A world with a pool of which no access fails. What a caller gets wrong fails the test.
+
+ghost use Rattle.std.specs.Prelude.{◌≡◌, ◌<◌, ◌≤◌, ◌-◌, ◌^◌, ℕ, IsTrue};
+ghost use Rattle.dn_callers.specs.Sessions.{IsSession};
+ghost use Rattle.dn_cluster.specs.Machine.{session_at};
+ghost use Rattle.dn_lanes.specs.Begun.{IsOwnTask};
+ghost use Rattle.dn_lanes.specs.Calls.{IsCall};
+ghost use Rattle.dn_monitor.specs.Monitor.{IsOrder};
+ghost use Rattle.dn_record.specs.Grammar.{IsValue};
+ghost use Rattle.dn_world2.specs.Comes.{has_failed};
+ghost use Rattle.dn_world2.specs.Happens.{MayBeGiven, IsNoFormat};
+
+use crate::{FinishFault, Standing, World};
+use dn_act::Sound;
+use dn_hist::Call;
+use dn_monitor::Order;
+use dn_outcomes::{Event, Outcome};
+use dn_tend::Task;
+use std::alloc::Global;
+use std::marker::Model;
+use std::process::Abort;
+use std::test::Fail;
+
+/// How many segments the pool has.
+const SEGMENTS: u32 = 80;
+
+/// A world that can be sound over the words of its pool.
+#[derive(Drop)]
+pub struct Play {
+    pool: Sound,
+    world: World,
+}
+
+impl Model for Play {
+    ghost use Rattle.dn_world2.specs.Happens.{CanBeSound};
+
+    ghost Value = { Unit {0} };
+
+    ghost view = { λ _. tt };
+
+    ghost invariant = { λ play. CanBeSound play.pool play.world };
+}
+
+/// Whether bytes are few enough for a value.
+fn is_value(bytes: &[u8]) -> bool
+    ensures { IsTrue result → IsValue bytes.now }
+{
+    bytes.len() <= 1024
+}
+
+/// Whether it is a call on a key.
+fn is_call(call: &Call) -> bool
+    ensures { IsTrue result → IsCall call.now }
+{
+    match call {
+        Call::Get { key } | Call::Delete { key } => *key != 0,
+        Call::Put { key, value } => *key != 0 && is_value(value.as_bytes()),
+    }
+}
+
+/// Whether a session has this number.
+fn is_session(session: u32) -> bool
+    ensures { IsTrue result → IsSession session }
+{
+    1 <= session && session <= 1000
+}
+
+/// Whether a monitor may have this order.
+fn is_order(order: Order) -> bool
+    ensures order { IsTrue result → IsOrder order }
+    ensures formatted { IsTrue result → IsNoFormat order }
+{
+    match order {
+        Order::Format { .. } => false,
+        Order::Look { slot } => slot < 64,
+        Order::Move { slot, to } => slot < 64 && 0 < to && to < 64,
+        Order::Fence { lane } | Order::Takeover { lane } => 0 < lane && lane < 64,
+    }
+}
+
+/// Whether it is a task of a lane's own slots and log.
+fn is_own(task: Task) -> bool
+    ensures { IsTrue result → IsOwnTask task }
+{
+    match task {
+        Task::Release { slot } => slot < 64,
+        Task::Trim => true,
+        Task::Share { .. } | Task::Unshare { .. } => false,
+    }
+}
+
+/// Whether an access failed.
+fn is_fault(outcome: Outcome) -> bool
+    ensures { result ≡ has_failed outcome }
+{
+    match outcome {
+        Outcome::Fault { .. } => true,
+        _ => false,
+    }
+}
+
+impl Play {
+    /// A world of so many nodes, which own all slots.
+    pub fn new(rt: &impl Abort, alloc: Global, nodes: u8) -> Result<Play, Fail> {
+        assert!(rt; 1 <= nodes && nodes <= 63);
+        let mut pool = Sound::new(alloc, SEGMENTS)?;
+        let world = World::open(alloc, &mut pool, SEGMENTS, nodes)?;
+        Ok(Play { pool, world })
+    }
+
+    /// The world does an event.
+    fn event(&mut self, rt: &impl Abort, event: Event) -> Outcome
+        requires { MayBeGiven self.old.world event }
+    {
+        match self.world.event(&mut self.pool, event) {
+            Ok(outcome) => {
+                assert!(rt; !is_fault(outcome), "no access fails");
+                outcome
+            }
+            Err(_) => panic!(rt; "there is memory"),
+        }
+    }
+
+    /// A session starts a call.
+    pub fn start(&mut self, rt: &impl Abort, session: u32, lane: Option<u8>, call: Call) -> Outcome {
+        assert!(rt; is_session(session));
+        assert!(rt; is_call(&call));
+        assert!(rt; self.world.cluster().session(session).again(0).number < u32::MAX);
+        self.event(
+            rt,
+            Event::Start {
+                session,
+                lane,
+                call,
+            },
+        )
+    }
+
+    /// A lane makes its next action.
+    pub fn step(&mut self, rt: &impl Abort, lane: u8) -> Outcome {
+        self.event(rt, Event::Step { lane })
+    }
+
+    /// A staged word flows.
+    pub fn flow(&mut self, rt: &impl Abort, lane: u8, index: u32) -> Outcome {
+        self.event(rt, Event::Flow { lane, index })
+    }
+
+    /// A merger makes its next action.
+    pub fn merge(&mut self, rt: &impl Abort, lane: u8) -> Outcome {
+        self.event(rt, Event::Merge { lane })
+    }
+
+    /// The monitor makes its next action.
+    pub fn monitor(&mut self, rt: &impl Abort) -> Outcome {
+        self.event(rt, Event::Monitor)
+    }
+
+    /// A session loads the deed that its call waits for.
+    pub fn load(&mut self, rt: &impl Abort, session: u32) -> Outcome {
+        assert!(rt; is_session(session));
+        self.event(rt, Event::Refresh { session })
+    }
+
+    /// The monitor is given an order.
+    pub fn give(&mut self, rt: &impl Abort, order: Order) -> Outcome {
+        assert!(rt; is_order(order));
+        self.event(rt, Event::Give { order })
+    }
+
+    /// A task arrives at a lane.
+    pub fn queue(&mut self, rt: &impl Abort, lane: u8, task: Task) -> Outcome {
+        assert!(rt; is_own(task));
+        self.event(rt, Event::Queue { lane, task })
+    }
+
+    /// A lane is added.
+    pub fn add(&mut self, rt: &impl Abort) -> Outcome {
+        self.event(rt, Event::Add)
+    }
+
+    /// A session is told another one's last position.
+    pub fn tell(&mut self, rt: &impl Abort, from: u32, to: u32) -> Outcome {
+        assert!(rt; is_session(from));
+        assert!(rt; is_session(to));
+        self.event(rt, Event::Tell { from, to })
+    }
+
+    /// All that the lanes have sealed is merged.
+    pub fn finish(&mut self) -> Result<(), FinishFault> {
+        self.world.finish(&mut self.pool)
+    }
+
+    /// What a lane has ended with.
+    pub fn ended(&self, lane: u8) -> (u64, u64) {
+        self.world.ended(lane)
+    }
+
+    /// The receipts that stand.
+    pub fn history(&self) -> &[Standing] {
+        self.world.history()
+    }
+
+    /// The live lanes.
+    pub fn live(&self) -> &[u8] {
+        self.world.live()
+    }
+}
