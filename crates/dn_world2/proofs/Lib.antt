@@ -10,3 +10,4 @@ pub mod Others
 pub mod Giving
 pub mod Events
 pub mod History
+pub mod Dropping

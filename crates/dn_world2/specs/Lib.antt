@@ -4,3 +4,4 @@ pub mod Comes
 pub mod Takes
 pub mod Gives
 pub mod Happens
+pub mod Opening

@@ -27,7 +27,10 @@ ghost use Rattle.dn_world2.specs.State.{CrewState, world_of};
 ghost use Rattle.dn_world2.specs.Comes.{CanBeWorld, Can, Turns, Moves, Carries, Comes, bare, OnDone, CountsFault, has_failed};
 ghost use Rattle.dn_world2.specs.Gives.{IsGivenBy, next_by};
 ghost use Rattle.dn_world2.specs.Happens.{MayBeGivenTo, HappensTo};
+ghost use Rattle.dn_world2.specs.Opening.{MonitorFails};
 ghost use Rattle.dn_world2.specs.Takes.{Takes, tends_at, tries_at, IsSessionOf};
+
+mod openings;
 
 use crate::leaving::{leaves_by, told_by};
 use crate::routes::{key_of, lane_or_none};
@@ -431,6 +434,9 @@ impl Crew {
         requires can { CanBeWorld (M.words mem.old) self.old }
         ensures came { OnDone result (Carries (M.words mem.old) self.old (M.words mem.new) self.new
             (bare result) monitor) }
+        ensures fails { has_failed result ≡ true → MonitorFails (M.words mem.old) self.old
+            (M.words mem.new) }
+        ensures same { has_failed result ≡ true → self.new ≡ self.old }
         ensures count { CountsFault result (M.faults mem.old) (M.faults mem.new) }
     {
         let action = self.monitor_next();
