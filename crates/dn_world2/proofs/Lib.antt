@@ -11,3 +11,4 @@ pub mod Giving
 pub mod Events
 pub mod History
 pub mod Dropping
+pub mod Granting
