@@ -1,4 +1,4 @@
-use Rattle.std.proofs.Common.{ℕ, ◌≡◌, ◌≢◌, ◌<◌, ◌≤◌, ◌==◌, Bool, true, false, if◌then◌else◌, List, [], Option, Some, None, refl, sym, ◌∙◌, ap, subst, slice_set, arith}
+use Rattle.std.proofs.Common.{ℕ, zero, suc, ◌+◌, ◌++◌, ◌∷◌, Contains, length, ◌≡◌, ◌≢◌, ◌<◌, ◌≤◌, ◌==◌, Bool, true, false, if◌then◌else◌, List, [], Option, Some, None, refl, sym, ◌∙◌, ap, subst, slice_set, arith}
 use Rattle.std.specs.Option.{is_some}
 use Rattle.std.proofs.lemmas.List.{set-get_or, append-nil}
 use Rattle.dn_act.specs.Action.{words_after, word_after}
@@ -9,6 +9,9 @@ use Rattle.dn_word.specs.Deed.{deed_word}
 use Rattle.dn_word.specs.declared.packed.deed.DeedState.{DeedState}
 use Rattle.dn_word.specs.declared.packed.deed.DeedState.TheVariants.{Nobody, Owned}
 use Rattle.std.proofs.lemmas.Bool.Decides.{nat_tests}
+use Rattle.std.proofs.lemmas.Cmp.{nat_eq_equiv}
+use Rattle.std.proofs.lemmas.List.Elements.{All-contains}
+use Rattle.std.proofs.lemmas.Map.Views.{list_any-from_Contains}
 use Rattle.dn_world2.proofs.Changes.{where_false}
 use Rattle.dn_monitor.specs.Grant.{granted_word}
 use Rattle.dn_monitor.specs.Monitor.{Monitoring, IsOrder, begun, monitor_next, monitor_turn, monitor_after}
@@ -19,6 +22,12 @@ use Rattle.dn_route.specs.CallersOrder.{Told}
 use Rattle.dn_callers.specs.Callers.{Standing}
 use Rattle.dn_machine.specs.Events.{Orders, ordered}
 use Rattle.dn_machine.specs.State.{Machine}
+use Rattle.dn_ring.specs.Ring.{IsOwner}
+use Rattle.std.specs.List.{list_any}
+use Rattle.dn_act.proofs.Words.{word_at-set_other}
+use Rattle.dn_outcomes.specs.Does.{does}
+use Rattle.dn_outcomes.specs.Runs.{after}
+use Rattle.dn_outcomes.specs.declared.events.Event.{Event}
 use Rattle.dn_store.specs.Fresh.{first_deed}
 use Rattle.dn_outcomes.specs.Orders.{give, monitor, release, leaves_by}
 use Rattle.dn_outcomes.specs.Sound.{IsWorld}
@@ -27,7 +36,7 @@ use Rattle.dn_outcomes.specs.declared.outcomes.Outcome.{Outcome}
 use Rattle.dn_outcomes.proofs.Others.{give_kept, monitor_kept}
 use Rattle.dn_world2.specs.Comes.{Moves, bare}
 use Rattle.dn_world2.specs.Gives.{IsGivenBy}
-use Rattle.dn_world2.specs.Opening.{MayGoOn, Leads, MayGrant, IsGranted, with_words, granted_to}
+use Rattle.dn_world2.specs.Opening.{MayGoOn, Leads, MayGrant, IsGranted, MayGrantAll, AreGranted, grants, grants_to, with_words, granted_to, all_granted}
 use Rattle.dn_world2.specs.State.{CrewState, world_of}
 use Rattle.dn_world2.proofs.Dropping.{may_lead}
 use Rattle.dn_world2.proofs.Giving.{given}
@@ -113,4 +122,79 @@ granted_so words x y o then_words z now v slot lane h may =
     let exchanged : (monitor (world_of then_words z [] [])).world ≡ with_words w (granted_to words slot lane) =
     ap (λ (u : World). (monitor u).world) second ∙ exchanges w slot lane heirs h.some may.deed
     ∙ ap (λ (m : Option Monitoring). with_order (with_words w (granted_to words slot lane)) m) (sym may.order) in
-    record { is = leads_to then_words z now v monitor _ h.exchanges_so sound_second exchanged refl }
+    let third : world_of now v [] [] ≡ with_words w (granted_to words slot lane) = leads_to then_words z now v monitor _ h.exchanges_so sound_second exchanged refl in
+    record { sound = subst IsWorld (exchanged ∙ sym third) (monitor_kept (world_of then_words z [] []) sound_second); is = third }
+
+-- ---- slot after slot
+pub record IsSoFar (words : List ℕ) (x : CrewState) (now : List ℕ) (y : CrewState) (owners : ℕ → ℕ) (n : ℕ) : Type 0 where
+  pub sound : IsWorld (world_of now y [] [])
+  pub is : world_of now y [] [] ≡ with_words (world_of words x [] []) (all_granted owners n words)
+
+-- a deed behind those that were granted stays
+not_yet : (owners : ℕ → ℕ) (n t : ℕ) (words : List ℕ) → n ≤ t → word_at (all_granted owners n words) (deed_at t) ≡ word_at words (deed_at t)
+not_yet owners zero t words le = refl
+not_yet owners (suc n) t words le =
+    word_at-set_other (all_granted owners n words) (deed_at n) (deed_at t) (first_deed (owners n)) (λ e. omega (arith, le, e)) ∙ not_yet owners n t words (omega (arith, le))
+
+pub is_lane : (words : List ℕ) (x : CrewState) (slot lane : ℕ) → IsWorld (world_of words x [] []) → IsOwner x.live slot lane → (1 ≤ lane) × (lane < 64)
+is_lane words x slot lane h owner =
+    let both = All-contains (λ (n : ℕ). (1 ≤ n) × (n ≤ length x.cluster.nodes)) x.live lane h.live.lanes owner.is_live in
+    (both.0, omega (arith, both.1, h.made.most))
+
+pub is_live_so : (live : List ℕ) (lane : ℕ) → Contains live lane → list_any (λ (k : ℕ). k == lane) live ≡ true
+is_live_so live lane has =
+    ap (λ (p : ℕ → Bool). list_any p live) (λ i k. nat_eq_equiv.symm k lane i) ∙ list_any-from_Contains nat_eq_equiv lane live has
+
+pub may_grant : (words : List ℕ) (x : CrewState) (now : List ℕ) (y : CrewState) (owners : ℕ → ℕ) (n : ℕ) → n < 64 → MayGrantAll words x → IsOwner x.live n (owners n) → IsSoFar words x now y owners n → MayGrant now y n (owners n)
+may_grant words x now y owners n lt may owner so = record {
+  sound = so.sound;
+  order = ap (λ (w : World). w.machine.monitor) so.is ∙ may.order;
+  lane_is = ap (λ (w : World). is_live w (owners n)) so.is ∙ is_live_so x.live (owners n) owner.is_live;
+  deed = ap (λ (w : World). word_at w.machine.words (deed_at n)) so.is ∙ not_yet owners n n words (omega arith) ∙ may.deeds n lt;
+}
+
+pub so_far_none : (words : List ℕ) (x : CrewState) (owners : ℕ → ℕ) → MayGrantAll words x → IsSoFar words x words x owners 0
+so_far_none words x owners may = record { sound = may.sound; is = refl }
+
+pub so_far_more : (words : List ℕ) (x : CrewState) (then_words : List ℕ) (z : CrewState) (now : List ℕ) (y : CrewState) (owners : ℕ → ℕ) (n : ℕ) → IsSoFar words x then_words z owners n
+    → IsGranted then_words z now y n (owners n) → IsSoFar words x now y owners (n + 1)
+so_far_more words x then_words z now y owners n so granted = record {
+  sound = granted.sound;
+  is = let more : suc n ≡ n + 1 = omega arith in
+      subst (λ (k : ℕ). world_of now y [] [] ≡ with_words (world_of words x [] []) (all_granted owners k words)) more
+      (granted.is ∙ ap (λ (w : World). with_words w (granted_to w.machine.words n (owners n))) so.is);
+}
+
+-- ---- as a run
+pub after_both : (w : World) (es fs : List (Event × List ℕ)) → after w (es ++ fs) ≡ after (after w es) fs
+after_both w [] fs = refl
+after_both w (e ∷ es) fs = after_both (does w e.0 e.1).world es fs
+
+-- one slot of a world
+grants_one : (w : World) (slot lane : ℕ) → w.machine.monitor ≡ None → is_live w lane ≡ true → 0 < lane → word_at w.machine.words (deed_at slot) ≡ 0
+    → after w (grants slot lane) ≡ with_words w (granted_to w.machine.words slot lane)
+grants_one w slot lane none live pos deed =
+    ap (λ (d : Done). (monitor (monitor d.world).world).world) (given w (Move slot lane) [] live (ap (is_some {T = Monitoring}) none))
+    ∙ ap (λ (u : World). (monitor u).world) (looks w slot lane [] deed) ∙ exchanges w slot lane [] pos deed
+    ∙ ap (λ (m : Option Monitoring). with_order (with_words w (granted_to w.machine.words slot lane)) m) (sym none)
+
+pub grants_all : (w : World) (owners : ℕ → ℕ) (n : ℕ) → n ≤ 64 → w.machine.monitor ≡ None → ((t : ℕ) → t < 64 → (is_live w (owners t) ≡ true) × (0 < owners t) × (word_at w.machine.words (deed_at t) ≡ 0))
+    → after w (grants_to owners n) ≡ with_words w (all_granted owners n w.machine.words)
+grants_all w owners zero le none each = refl
+grants_all w owners (suc n) le none each =
+    let at = each n (omega (arith, le)) in
+    after_both w (grants_to owners n) (grants n (owners n))
+    ∙ ap (λ (u : World). after u (grants n (owners n))) (grants_all w owners n (omega (arith, le)) none each)
+    ∙ grants_one (with_words w (all_granted owners n w.machine.words)) n (owners n) none at.0 at.1 (not_yet owners n n w.machine.words (omega arith) ∙ at.2)
+
+pub all_so : (words : List ℕ) (x : CrewState) (now : List ℕ) (y : CrewState) (owners : ℕ → ℕ) (n : ℕ) → n ≡ 64 → MayGrantAll words x → ((t : ℕ) → t < 64 → IsOwner x.live t (owners t)) → IsSoFar words x now y owners n → AreGranted words x now y
+all_so words x now y owners n e may ring so =
+    let is : world_of now y [] [] ≡ with_words (world_of words x [] []) (all_granted owners 64 words) = so.is ∙ ap (λ (k : ℕ). with_words (world_of words x [] []) (all_granted owners k words)) e in
+    record {
+      sound = so.sound;
+      owners = owners;
+      ring = ring;
+      is = is;
+      run = is ∙ sym (grants_all (world_of words x [] []) owners 64 (omega arith) may.order
+      (λ t lt. (is_live_so x.live (owners t) (ring t lt).is_live, omega (arith, (is_lane words x t (owners t) may.sound (ring t lt)).0), may.deeds t lt)));
+    }

@@ -12,3 +12,4 @@ pub mod Events
 pub mod History
 pub mod Dropping
 pub mod Granting
+pub mod Adding

@@ -108,6 +108,7 @@ pub record MayGrant (words : List ℕ) (x : CrewState) (slot lane : ℕ) : Type 
   pub deed : word_at words (deed_at slot) ≡ 0
 
 pub record IsGranted (words : List ℕ) (x : CrewState) (now : List ℕ) (y : CrewState) (slot lane : ℕ) : Type 0 where
+  pub sound : IsWorld (world_of now y [] [])
   pub is : world_of now y [] [] ≡ with_words (world_of words x [] []) (granted_to words slot lane)
 
 -- the same of each slot

@@ -1,12 +1,13 @@
 //! The opening of a crew over a pool of zeros.
 
-ghost use Rattle.std.specs.Prelude.{◌≡◌, ◌<◌, ◌≤◌, ℕ, List, [], IfOk, OnOk, true, false, length};
+ghost use Rattle.std.specs.Prelude.{◌≡◌, ◌<◌, ◌≤◌, ℕ, List, [], IfOk, OnOk, slice_index, length};
 ghost use Rattle.dn_act.specs.Words.{IsZeros, pool_size};
 ghost use Rattle.dn_cluster.specs.State.{ClusterState};
 ghost use Rattle.dn_machine.specs.Events.{Drops};
 ghost use Rattle.dn_outcomes.specs.Orders.{monitor};
 ghost use Rattle.dn_outcomes.specs.Runs.{after};
 ghost use Rattle.dn_outcomes.specs.State.{with_event};
+ghost use Rattle.dn_ring.specs.Ring.{IsOwner};
 ghost use Rattle.dn_waiting.specs.Stops.{waiting_from};
 ghost use Rattle.dn_world2.specs.Comes.{Turns};
 ghost use Rattle.dn_world2.specs.Opening.{IsNew, MayGoOn, Leads, MayGrant, IsGranted, MayGrantAll, AreGranted, IsOpened, adds_for};
@@ -69,7 +70,7 @@ impl Crew {
         ensures { (words : List ℕ) → OnOk result (world_of words self.new [] []
             ≡ after (world_of words self.old [] []) (adds_for nodes)) }
     {
-        for _ in 0..nodes {
+        for added in 0..nodes {
             self.add()?;
         }
         Ok(())
@@ -83,6 +84,18 @@ impl Crew {
         ensures count { M.faults mem.old ≤ M.faults mem.new }
     {
         let lanes = assign(&self.live);
+        self.grant_each(mem, lanes);
+    }
+
+    /// Gives each slot to its lane, which is its owner.
+    fn grant_each<M: Memory>(&mut self, mem: &mut M, lanes: [u8; 64])
+        requires can { MayGrantAll (M.words mem.old) self.old }
+        requires owners { (slot : ℕ) → slot < 64
+            → IsOwner self.old.live slot (slice_index lanes slot) }
+        ensures granted { M.faults mem.new ≡ M.faults mem.old → AreGranted (M.words mem.old) self.old
+            (M.words mem.new) self.new }
+        ensures count { M.faults mem.old ≤ M.faults mem.new }
+    {
         for slot in 0..SLOTS {
             self.grant(mem, slot, lanes[usize::from(slot)]);
         }
