@@ -13,3 +13,4 @@ pub mod History
 pub mod Dropping
 pub mod Granting
 pub mod Adding
+pub mod Opened

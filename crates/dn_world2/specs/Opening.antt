@@ -1,6 +1,6 @@
 use Rattle.std.specs.Prelude.{◌≡◌, ◌≢◌, ◌≤◌, ◌<◌, ◌++◌, ◌∷◌, [], ℕ, zero, suc, List, Option, Some, None, true, length, replicate, slice_set}
 use Rattle.dn_act.specs.Action.{words_after}
-use Rattle.dn_act.specs.Words.{word_at}
+use Rattle.dn_act.specs.Words.{IsZeros, word_at}
 use Rattle.dn_cluster.specs.Acting.{format_of}
 use Rattle.dn_cluster.specs.Does.{Rests, FailsAs}
 use Rattle.dn_cluster.specs.Machine.{lane_in}
@@ -9,6 +9,7 @@ use Rattle.dn_lane2.specs.State.{LaneState}
 use Rattle.dn_lane2.specs.declared.modes.Mode.TheVariants.{Idle}
 use Rattle.dn_machine.specs.Events.{Fails, Monitor as ByMonitor}
 use Rattle.dn_machine.specs.Sound.{IsSound}
+use Rattle.dn_machine.specs.State.{resting}
 use Rattle.dn_model.specs.Regions.{deed_at}
 use Rattle.dn_monitor.specs.declared.orders.Order.TheVariants.{Move}
 use Rattle.dn_ring.specs.Ring.{IsOwner}
@@ -73,6 +74,11 @@ pub record IsNew (segments : ℕ) (x : CrewState) : Type 0 where
   pub rests : Rests x.cluster
   pub waits : x.waiting ≡ nothing_waits
   pub live : x.live ≡ []
+
+-- the pool is formatted, which makes a pool of zeros sound
+pub record IsFormatted (words : List ℕ) (x : CrewState) (now : List ℕ) : Type 0 where
+  pub words_are : now ≡ formatted x.cluster.segments words
+  pub sound : IsZeros words → Rests x.cluster → IsSound x.cluster.segments (resting now)
 
 -- some told positions make it sound, where no receipt stands
 pub record MayGoOn (words : List ℕ) (x : CrewState) : Type 0 where

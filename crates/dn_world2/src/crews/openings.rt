@@ -1,6 +1,6 @@
 //! The opening of a crew over a pool of zeros.
 
-ghost use Rattle.std.specs.Prelude.{◌≡◌, ◌<◌, ◌≤◌, ℕ, List, [], IfOk, OnOk, slice_index, length};
+ghost use Rattle.std.specs.Prelude.{◌≡◌, ◌<◌, ◌≤◌, ℕ, List, [], IfOk, OnOk, true, false, slice_index, length};
 ghost use Rattle.dn_act.specs.Words.{IsZeros, pool_size};
 ghost use Rattle.dn_cluster.specs.State.{ClusterState};
 ghost use Rattle.dn_machine.specs.Events.{Drops};
@@ -10,7 +10,7 @@ ghost use Rattle.dn_outcomes.specs.State.{with_event};
 ghost use Rattle.dn_ring.specs.Ring.{IsOwner};
 ghost use Rattle.dn_waiting.specs.Stops.{waiting_from};
 ghost use Rattle.dn_world2.specs.Comes.{Turns};
-ghost use Rattle.dn_world2.specs.Opening.{IsNew, MayGoOn, Leads, MayGrant, IsGranted, MayGrantAll, AreGranted, IsOpened, adds_for};
+ghost use Rattle.dn_world2.specs.Opening.{IsNew, MayGoOn, Leads, MayGrant, IsGranted, MayGrantAll, AreGranted, IsFormatted, IsOpened, adds_for};
 ghost use Rattle.dn_world2.specs.State.{world_of};
 
 use super::Crew;
@@ -44,13 +44,22 @@ impl Crew {
         ensures count { OnOk result (M.faults mem.old ≤ M.faults mem.new) }
     {
         let mut crew = Crew::new(alloc, segments)?;
-        let formatted = crew.cluster.format(mem);
+        let formatted = crew.format(mem);
         crew.add_lanes(nodes)?;
-        match formatted {
-            Acted::Fault => {}
-            _ => crew.grant_slots(mem),
+        if formatted {
+            crew.grant_slots(mem);
         }
         Ok(crew)
+    }
+
+    /// Formats the pool, and answers whether that was done.
+    fn format<M: Memory>(&self, mem: &mut M) -> bool
+        requires { length (M.words mem.old) ≡ pool_size self.now.cluster.segments }
+        ensures done { result ≡ true → IsFormatted (M.words mem.old) self.now (M.words mem.new) }
+        ensures same { result ≡ true → M.faults mem.new ≡ M.faults mem.old }
+        ensures fault { result ≡ false → M.faults mem.old < M.faults mem.new }
+    {
+        !matches!(self.cluster.format(mem), Acted::Fault)
     }
 
     /// A crew without lanes.
