@@ -23,7 +23,9 @@ use Rattle.dn_outcomes.specs.Sound.{IsWorld}
 use Rattle.dn_outcomes.specs.State.{World, opened}
 use Rattle.dn_outcomes.proofs.Opening.{opening}
 use Rattle.dn_world2.specs.Opening.{adds_for, grants_to, lanes_to, formatted, IsOpened, IsNew, IsFormatted, MayGrantAll, AreGranted, all_granted, with_words}
-use Rattle.dn_world2.specs.State.{CrewState, world_of}
+use Rattle.dn_callers.specs.Callers.{Standing}
+use Rattle.dn_world2.specs.Happens.{CanBeSound}
+use Rattle.dn_world2.specs.State.{CrewState, WorldState, world_of}
 use Rattle.dn_world2.proofs.Adding.{HasAdded, has_added, added_sound}
 use Rattle.dn_world2.proofs.Changes.{same_world, where_false}
 use Rattle.dn_world2.proofs.Granting.{is_lane, after_both}
@@ -154,3 +156,11 @@ opened_so segments n words mid x y now z h g =
           ∙ sym (after_both (opened segments mid) (adds_for n) (grants_to g.owners 64))
           ∙ ap (λ (ws : List ℕ). after (opened segments ws) (adds_for n ++ grants_to g.owners 64)) formed;
     }
+
+-- no receipt stands
+pub opened_world : (before words : List ℕ) (x : CrewState) (h : List Standing) (segments n : ℕ) → h ≡ [] → IsOpened before words (record { crew = x; history = [] }) segments n
+    → IsOpened before words (record { crew = x; history = h }) segments n
+opened_world before words x h segments n e opened = subst (λ (hs : List Standing). IsOpened before words (record { crew = x; history = hs }) segments n) (sym e) opened
+
+pub opened_sound : (before words : List ℕ) (w : WorldState) (segments n : ℕ) → IsOpened before words w segments n → CanBeSound words w
+opened_sound before words w segments n h = record { told = []; sound = subst (λ (hs : List Standing). IsWorld (world_of words w.crew [] hs)) (sym h.history) h.sound }

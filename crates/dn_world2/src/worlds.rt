@@ -3,6 +3,8 @@ ghost use Rattle.dn_outcomes.specs.declared.events.Event.{Event as Given};
 ghost use Rattle.dn_world2.specs.Comes.{OnDone, CountsFault};
 ghost use Rattle.dn_world2.specs.Happens.{CanBeSound, MayBeGiven, Happens};
 
+mod openings;
+
 use crate::crews::{Came, Crew};
 use dn_act::Memory;
 use dn_hist::Receipt;

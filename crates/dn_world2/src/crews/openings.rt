@@ -41,7 +41,7 @@ impl Crew {
         requires most { nodes ≤ 63 }
         ensures opened { M.faults mem.new ≡ M.faults mem.old → IfOk result (λ crew. IsOpened
             (M.words mem.old) (M.words mem.new) (record { crew = crew; history = [] }) segments nodes) }
-        ensures count { OnOk result (M.faults mem.old ≤ M.faults mem.new) }
+        ensures count { M.faults mem.old ≤ M.faults mem.new }
     {
         let mut crew = Crew::new(alloc, segments)?;
         let formatted = crew.format(mem);
