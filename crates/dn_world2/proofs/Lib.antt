@@ -12,3 +12,7 @@ pub mod Events
 pub mod Finishing
 pub mod History
 pub mod Playing
+pub mod Dropping
+pub mod Granting
+pub mod Adding
+pub mod Opened

@@ -5,3 +5,4 @@ pub mod Takes
 pub mod Gives
 pub mod Happens
 pub mod Finishes
+pub mod Opening

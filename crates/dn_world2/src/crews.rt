@@ -31,7 +31,10 @@ ghost use Rattle.dn_drain.specs.Acted.{LeavesActors};
 ghost use Rattle.dn_drain.specs.All.{AreDrained, AreMerged, IsLaneFault};
 ghost use Rattle.dn_drain.specs.Drained.{IsFullFault, CountsPool};
 ghost use Rattle.dn_drain.specs.Leaves.{LeavesLogs};
+ghost use Rattle.dn_world2.specs.Opening.{MonitorFails};
 ghost use Rattle.dn_world2.specs.Takes.{Takes, tends_at, tries_at, IsSessionOf};
+
+mod openings;
 
 use crate::leaving::{fenced_by, leaves_by, told_by};
 use crate::routes::{key_of, lane_or_none};
@@ -467,6 +470,9 @@ impl Crew {
         requires can { CanBeWorld (M.words mem.old) self.old }
         ensures came { OnDone result (Carries (M.words mem.old) self.old (M.words mem.new) self.new
             (bare result) monitor) }
+        ensures fails { has_failed result ≡ true → MonitorFails (M.words mem.old) self.old
+            (M.words mem.new) }
+        ensures same { has_failed result ≡ true → self.new ≡ self.old }
         ensures count { CountsFault result (M.faults mem.old) (M.faults mem.new) }
     {
         let action = self.monitor_next();

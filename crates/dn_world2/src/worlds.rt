@@ -7,6 +7,8 @@ ghost use Rattle.dn_drain.specs.Leaves.{LeavesLogs};
 ghost use Rattle.dn_world2.specs.Finishes.{Finishes, IsFinishFault, CountsFinish, HaveEnded, ended_at};
 ghost use Rattle.dn_world2.specs.Happens.{CanBeSound, MayBeGiven, Happens};
 
+mod openings;
+
 use crate::crews::{Came, Crew};
 use crate::finishes::{FinishFault, fault_by};
 use dn_act::Memory;

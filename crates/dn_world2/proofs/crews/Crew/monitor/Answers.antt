@@ -12,7 +12,10 @@ use Rattle.dn_outcomes.specs.Orders.{leaves_by, fenced_by, monitor, told_by}
 use Rattle.dn_outcomes.specs.declared.outcomes.Outcome.TheVariants as outcome
 use Rattle.dn_world2.specs.Comes.{has_failed}
 use Rattle.dn_world2.specs.Gives.{next_by}
+use Rattle.dn_cluster.specs.State.{ClusterState}
 use Rattle.dn_world2.specs.Inside.{state_of}
+use Rattle.dn_world2.specs.Opening.{MonitorFails}
+use Rattle.dn_world2.proofs.Stepping.{not_both}
 use Rattle.dn_world2.specs.State.{CrewState, world_of}
 use Rattle.dn_world2.proofs.Others.{monitor_done, MonitorRests, monitor_rests, ordered_fine}
 use Rattle.dn_world2.proofs.Refreshing.{not_failed, acts_rest, no_fault, carries_as}
@@ -49,10 +52,14 @@ returns g c =
               releases = w.release.ensures;
               unlives = w.unlive.ensures;
             }));
+        fails = λ t. absurd (not_both (has_failed c.match-act.result) t (ap has_failed (w.result-is ∙ w.told_by.ensures) ∙ ordered_fine w.in-Monitor.turn));
+        same = λ t. absurd (not_both (has_failed c.match-act.result) t (ap has_failed (w.result-is ∙ w.told_by.ensures) ∙ ordered_fine w.in-Monitor.turn));
         count = counts_done c.match-act.result _ _ (ap has_failed (w.result-is ∙ w.told_by.ensures) ∙ ordered_fine w.in-Monitor.turn) (w.in-Monitor.ensures.count.done refl);
       }
       | in-Fault w ↦ record {
         came = λ done. absurd (no_fault c.match-act.result (outcome.Fault actor.Monitor) w.result-is refl done);
+        fails = λ _. subst (λ (z : CrewState). MonitorFails words z now) c.self.view_is (w.in-Fault.ensures.fails refl);
+        same = λ _. w.self-is ∙ ap (λ (k : ClusterState). record x { cluster = k }) (w.in-Fault.ensures.same refl) ∙ c.self.view_is;
         count = counts_fault c.match-act.result _ _ (ap has_failed w.result-is) (w.in-Fault.ensures.count.fault refl);
       }
       | in_default w ↦
@@ -68,6 +75,8 @@ returns g c =
                   waiting = refl;
                   live = refl;
                 }) (λ told receipts. (rests told receipts).nothing) (λ told receipts. ap (λ (m : Machine). record (world_of words x told receipts) { machine = m }) (rests told receipts).same));
+            fails = λ t. absurd (not_both (has_failed c.match-act.result) t (ap has_failed w.result-is));
+            same = λ t. absurd (not_both (has_failed c.match-act.result) t (ap has_failed w.result-is));
             count = counts_done c.match-act.result _ _ (ap has_failed w.result-is) (c.act.ensures.count.done fine);
           }
     ]

@@ -1,0 +1,84 @@
+//! The opening of a world, and what can be seen of one.
+
+ghost use Rattle.std.specs.Prelude.{◌≡◌, ◌≤◌, IfOk, [], map, length};
+ghost use Rattle.dn_act.specs.Words.{IsZeros, pool_size};
+ghost use Rattle.dn_waiting.specs.Stops.{waiting_from};
+ghost use Rattle.dn_world2.specs.Happens.{CanBeSound};
+ghost use Rattle.dn_world2.specs.Inside.{stands_as};
+ghost use Rattle.dn_world2.specs.Opening.{IsOpened};
+
+use super::{Standing, World};
+use crate::crews::Crew;
+use dn_act::Memory;
+use dn_cluster::Cluster;
+use dn_word::OutOfMemory;
+use std::alloc::Global;
+
+impl World {
+    /// Opens a world over a pool of zeros, of 1 to 8,192 segments, with lanes 1 to `nodes`, at most 63. The monitor formats
+    /// the pool, the lanes are added, all of them live, and each slot from 0 to 63 is given to its owner on the ring of these
+    /// lanes: the monitor is given the order, and makes its two actions. That is 129 actions. Where each is done the world is
+    /// sound, and it is what these events lead to; so the words are those of a fresh pool with these owners.
+    ///
+    /// An access that failed raised the count of faults. It is passed over: that order is dropped, and the next slot follows;
+    /// where the pool isn't formatted no slot is given. Nothing is said of the world then. Want of memory comes before or
+    /// after the pool is formatted, and before any slot is given.
+    pub fn open<M: Memory>(
+        alloc: Global,
+        mem: &mut M,
+        segments: u32,
+        nodes: u8,
+    ) -> Result<World, OutOfMemory>
+        requires size { length (M.words mem.old) ≡ pool_size segments }
+        requires zeros { IsZeros (M.words mem.old) }
+        requires segments { segments ≤ 8192 }
+        requires some { 1 ≤ nodes }
+        requires most { nodes ≤ 63 }
+        ensures opened { M.faults mem.new ≡ M.faults mem.old → IfOk result (λ world. IsOpened
+            (M.words mem.old) (M.words mem.new) world segments nodes) }
+        ensures sound { M.faults mem.new ≡ M.faults mem.old
+            → IfOk result (CanBeSound (M.words mem.new)) }
+        ensures count { M.faults mem.old ≤ M.faults mem.new }
+    {
+        let crew = Crew::open(alloc, mem, segments, nodes)?;
+        Ok(World {
+            crew,
+            standing: Vec::new(alloc),
+        })
+    }
+
+    /// The cluster: its lanes, sessions and the monitor's order.
+    pub fn cluster(&self) -> &Cluster
+        ensures { result.now ≡ self.now.crew.cluster }
+    {
+        self.crew.cluster()
+    }
+
+    /// The lanes that are live, which rise.
+    pub fn live(&self) -> &[u8]
+        ensures { result.now ≡ self.now.crew.live }
+    {
+        self.crew.live()
+    }
+
+    /// The receipts that stand, in the order in which they came, each with whether its session was answered it.
+    pub fn history(&self) -> &[Standing]
+        ensures { map stands_as result.now ≡ self.now.history }
+    {
+        &self.standing
+    }
+
+    /// The keys that are shared, each with the number of its cell: none, as no event shares keys.
+    pub fn hints(&self) -> &[(u64, u8)]
+        ensures { result.now ≡ [] }
+    {
+        &[]
+    }
+
+    /// The calls that have no end yet, each by its session and its number, in order of session; or want of memory.
+    pub fn waiting(&self, alloc: Global) -> Result<Vec<(u32, u32)>, OutOfMemory>
+        ensures { IfOk result (λ calls. calls.items ≡ waiting_from 0 self.now.crew.waiting.calls) }
+    {
+        self.crew.waiting(alloc)
+    }
+}
