@@ -24,6 +24,7 @@ use Rattle.dn_outcomes.specs.State.{World, opened}
 use Rattle.dn_outcomes.proofs.Opening.{opening}
 use Rattle.dn_world2.specs.Opening.{adds_for, grants_to, lanes_to, formatted, IsOpened, IsNew, IsFormatted, MayGrantAll, AreGranted, all_granted, with_words}
 use Rattle.dn_callers.specs.Callers.{Standing}
+use Rattle.dn_drain.specs.declared.drains.Merged.{Merged}
 use Rattle.dn_world2.specs.Happens.{CanBeSound}
 use Rattle.dn_world2.specs.State.{CrewState, WorldState, world_of}
 use Rattle.dn_world2.proofs.Adding.{HasAdded, has_added, added_sound}
@@ -135,7 +136,7 @@ owner_made words x slot lane n h made owner =
 
 -- ---- all
 pub opened_so : (segments n : ℕ) (words mid : List ℕ) (x y : CrewState) (now : List ℕ) (z : CrewState) → IsReady segments n words mid x y → AreGranted mid y now z
-    → IsOpened words now (record { crew = z; history = [] }) segments n
+    → IsOpened words now (record { crew = z; history = []; ended = [] }) segments n
 opened_so segments n words mid x y now z h g =
     let has : HasAdded segments mid n (world_of mid y [] []) = ready_has segments n words mid x y h in
     let may : MayGrantAll mid y = ready_may segments n words mid x y h in
@@ -157,10 +158,13 @@ opened_so segments n words mid x y now z h g =
           ∙ ap (λ (ws : List ℕ). after (opened segments ws) (adds_for n ++ grants_to g.owners 64)) formed;
     }
 
--- no receipt stands
-pub opened_world : (before words : List ℕ) (x : CrewState) (h : List Standing) (segments n : ℕ) → h ≡ [] → IsOpened before words (record { crew = x; history = [] }) segments n
-    → IsOpened before words (record { crew = x; history = h }) segments n
-opened_world before words x h segments n e opened = subst (λ (hs : List Standing). IsOpened before words (record { crew = x; history = hs }) segments n) (sym e) opened
+-- no receipt stands, and no drain has ended
+pub opened_world : (before words : List ℕ) (x : CrewState) (h : List Standing) (es : List Merged) (segments n : ℕ) → h ≡ [] → es ≡ []
+    → IsOpened before words (record { crew = x; history = []; ended = [] }) segments n
+    → IsOpened before words (record { crew = x; history = h; ended = es }) segments n
+opened_world before words x h es segments n none done opened =
+    subst (λ (ms : List Merged). IsOpened before words (record { crew = x; history = h; ended = ms }) segments n) (sym done)
+    (subst (λ (hs : List Standing). IsOpened before words (record { crew = x; history = hs; ended = [] }) segments n) (sym none) opened)
 
 pub opened_sound : (before words : List ℕ) (w : WorldState) (segments n : ℕ) → IsOpened before words w segments n → CanBeSound words w
 opened_sound before words w segments n h = record { told = []; sound = subst (λ (hs : List Standing). IsWorld (world_of words w.crew [] hs)) (sym h.history) h.sound }

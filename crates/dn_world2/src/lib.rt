@@ -9,6 +9,8 @@ mod crews;
 mod finishes;
 mod leaving;
 mod routes;
+#[cfg(test)]
+mod tests;
 mod worlds;
 
 pub use finishes::FinishFault;

@@ -40,7 +40,7 @@ impl Crew {
         requires some { 1 ≤ nodes }
         requires most { nodes ≤ 63 }
         ensures opened { M.faults mem.new ≡ M.faults mem.old → IfOk result (λ crew. IsOpened
-            (M.words mem.old) (M.words mem.new) (record { crew = crew; history = [] }) segments nodes) }
+            (M.words mem.old) (M.words mem.new) (record { crew = crew; history = []; ended = [] }) segments nodes) }
         ensures count { M.faults mem.old ≤ M.faults mem.new }
     {
         let mut crew = Crew::new(alloc, segments)?;

@@ -44,6 +44,7 @@ impl World {
         Ok(World {
             crew,
             standing: Vec::new(alloc),
+            ended: Vec::new(alloc),
         })
     }
 

@@ -32,8 +32,8 @@ returns g c =
         let count : g.M.Memory.faults c.if-formatted.mem ≡ g.M.Memory.faults w.grant_slots.new.mem = ap g.M.Memory.faults w.mem-is in
         record {
           opened = λ same.
-            subst (λ (z : CrewState). IsOpened words (g.M.Memory.words c.if-formatted.mem) (record { crew = z; history = [] }) c.args.segments c.args.nodes) (sym w.crew-is)
-            (subst (λ (ws : List ℕ). IsOpened words ws (record { crew = w.grant_slots.new.self; history = [] }) c.args.segments c.args.nodes) (sym (ap g.M.Memory.words w.mem-is))
+            subst (λ (z : CrewState). IsOpened words (g.M.Memory.words c.if-formatted.mem) (record { crew = z; history = []; ended = [] }) c.args.segments c.args.nodes) (sym w.crew-is)
+            (subst (λ (ws : List ℕ). IsOpened words ws (record { crew = w.grant_slots.new.self; history = []; ended = [] }) c.args.segments c.args.nodes) (sym (ap g.M.Memory.words w.mem-is))
             (opened_so c.args.segments c.args.nodes words mid c.in_ok-crew.crew c.add_lanes.new.self (g.M.Memory.words w.grant_slots.new.mem) w.grant_slots.new.self (record {
               size = c.requires.size;
               zeros = c.requires.zeros;

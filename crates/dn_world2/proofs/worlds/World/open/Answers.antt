@@ -8,10 +8,11 @@ use Rattle.dn_world2.proofs.worlds.World.open.Goals as goal
 
 pub returns-clause-opened : goal.returns-clause-opened
 returns-clause-opened g c same =
-    opened_world (g.M.Memory.words c.args.mem.now) (g.M.Memory.words c.open.new.mem) c.in_ok-crew.crew (map stands_as c.new.result.items) c.args.segments c.args.nodes
-    (ap (λ (ks : List Standing). map stands_as ks) c.new.ensures.items) (c.in_ok-crew.ensures.opened same)
+    opened_world (g.M.Memory.words c.args.mem.now) (g.M.Memory.words c.open.new.mem) c.in_ok-crew.crew (map stands_as c.new.result.items) c.new-2.result.items
+    c.args.segments c.args.nodes (ap (λ (ks : List Standing). map stands_as ks) c.new.ensures.items) c.new-2.ensures.items (c.in_ok-crew.ensures.opened same)
 
 pub returns-clause-sound : goal.returns-clause-sound
 returns-clause-sound g c same =
-    opened_sound (g.M.Memory.words c.args.mem.now) (g.M.Memory.words c.open.new.mem) (world_in (record { crew = c.in_ok-crew.crew; standing = c.new.result })) c.args.segments c.args.nodes
+    opened_sound (g.M.Memory.words c.args.mem.now) (g.M.Memory.words c.open.new.mem)
+    (world_in (record { crew = c.in_ok-crew.crew; standing = c.new.result; ended = c.new-2.result })) c.args.segments c.args.nodes
     (returns-clause-opened g c same)
