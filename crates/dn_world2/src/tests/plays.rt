@@ -7,10 +7,9 @@ ghost use Rattle.dn_lanes.specs.Begun.{IsOwnTask};
 ghost use Rattle.dn_lanes.specs.Calls.{IsCall};
 ghost use Rattle.dn_monitor.specs.Monitor.{IsOrder};
 ghost use Rattle.dn_record.specs.Grammar.{IsValue};
-ghost use Rattle.dn_world2.specs.Comes.{has_failed};
 ghost use Rattle.dn_world2.specs.Happens.{MayBeGiven, IsNoFormat};
 
-use crate::{FinishFault, Standing, World};
+use crate::{Standing, World};
 use dn_act::Sound;
 use dn_hist::Call;
 use dn_monitor::Order;
@@ -89,16 +88,6 @@ fn is_own(task: Task) -> bool
     }
 }
 
-/// Whether an access failed.
-fn is_fault(outcome: Outcome) -> bool
-    ensures { result ≡ has_failed outcome }
-{
-    match outcome {
-        Outcome::Fault { .. } => true,
-        _ => false,
-    }
-}
-
 impl Play {
     /// A world of so many nodes, which own all slots.
     pub fn new(rt: &impl Abort, alloc: Global, nodes: u8) -> Result<Play, Fail> {
@@ -112,13 +101,10 @@ impl Play {
     fn event(&mut self, rt: &impl Abort, event: Event) -> Outcome
         requires { MayBeGiven self.old.world event }
     {
-        match self.world.event(&mut self.pool, event) {
-            Ok(outcome) => {
-                assert!(rt; !is_fault(outcome), "no access fails");
-                outcome
-            }
-            Err(_) => panic!(rt; "there is memory"),
-        }
+        let Ok(outcome) = self.world.event(&mut self.pool, event) else {
+            panic!(rt; "there is memory");
+        };
+        outcome
     }
 
     /// A session starts a call.
@@ -187,8 +173,10 @@ impl Play {
     }
 
     /// All that the lanes have sealed is merged.
-    pub fn finish(&mut self) -> Result<(), FinishFault> {
-        self.world.finish(&mut self.pool)
+    pub fn finish(&mut self, rt: &impl Abort) {
+        let Ok(()) = self.world.finish(&mut self.pool) else {
+            panic!(rt; "all is merged");
+        };
     }
 
     /// What a lane has ended with.
