@@ -1,6 +1,7 @@
-use Rattle.std.specs.Prelude.{◌+◌, ℕ, Bool, false, List, [], ◌∷◌, ◌++◌, Option, Some, None, map, if◌then◌else◌}
+use Rattle.std.specs.Prelude.{◌≡◌, ℕ, Bool, false, List, [], ◌∷◌, ◌++◌, Option, Some, None, Contains, map, if◌then◌else◌}
 use Rattle.dn_hist.specs.declared.calls.Call.{Call}
 use Rattle.dn_hist.specs.declared.receipts.Receipt.{Receipt}
+use Rattle.dn_callers.specs.Callers.{Standing}
 use Rattle.dn_waiting.specs.State.{call_of}
 use Rattle.dn_waiting.specs.declared.calls.OpenCall.{OpenCall}
 use Rattle.dn_outcomes.specs.declared.events.Event.{Event}
@@ -95,6 +96,14 @@ numbers_asked xs = map (λ (x : Asked). x.number) xs
 abbrev pub numbers_ended : List Ended → List ℕ
 numbers_ended xs = map (λ (x : Ended). x.number) xs
 
--- ---- what was asked by the call of a receipt
+-- ---- receipts
+-- what the session of a receipt had asked
 abbrev pub asked_for : Receipt → Asked
 asked_for r = record { number = r.number; call = r.call }
+
+-- the call of session s with this number has a receipt that stands
+pub record HasReceipt (w : World) (s number : ℕ) : Type 0 where
+  pub standing : Standing
+  pub stands : Contains w.machine.callers.receipts standing
+  pub session : standing.receipt.position.session ≡ s
+  pub its : standing.receipt.number ≡ number
