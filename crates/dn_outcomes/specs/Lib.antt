@@ -8,3 +8,4 @@ pub mod Sound
 pub mod Runs
 pub mod Told
 pub mod Effects
+pub mod Accounts

@@ -1,17 +1,21 @@
 //! What is so of worlds, as functions without work: what each says is its contract.
 
-ghost use Rattle.std.specs.Prelude.{◌≡◌, ◌++◌, ℕ, Bool, false, List, Option};
+ghost use Rattle.std.specs.Prelude.{◌≡◌, ◌++◌, ◌+◌, ◌⊎◌, ℕ, Bool, true, false, List, Option, Contains, length};
+ghost use Rattle.std.specs.List.{range_with_len};
+ghost use Rattle.std.specs.List.Sorted.{IsStrictlyIncreasing};
 ghost use Rattle.dn_hist.specs.Calls.{Bytes};
 ghost use Rattle.dn_hist.specs.Replay.{IsLegal, map_left};
 ghost use Rattle.dn_hist.specs.declared.calls.Call.{Call};
 ghost use Rattle.dn_hist.specs.declared.receipts.Receipt.{Receipt};
 ghost use Rattle.dn_model.specs.PoolMap.{HoldsMap};
 ghost use Rattle.dn_route.specs.CallersOrder.{KeepsCallersOrder};
+ghost use Rattle.dn_callers.specs.Callers.{Standing};
 ghost use Rattle.dn_callers.specs.Sessions.{IsSession};
 ghost use Rattle.dn_machine.specs.Histories.{IsHistory};
 ghost use Rattle.dn_machine.specs.Sound.{IsSound};
 ghost use Rattle.dn_machine.specs.State.{resting};
 ghost use Rattle.dn_waiting.specs.State.{call_of};
+ghost use Rattle.dn_outcomes.specs.Accounts.{open_in, asked_in, Ended, ended_in, numbers_asked, numbers_ended, asked_for, HasReceipt};
 ghost use Rattle.dn_outcomes.specs.Does.{does};
 ghost use Rattle.dn_outcomes.specs.Effects.{Effect};
 ghost use Rattle.dn_outcomes.specs.Runs.{after, IsRun, told_in, calls_of};
@@ -67,6 +71,32 @@ pub fn outcomes()
     ensures runs { (w : World) (es : List (Event × List ℕ)) → IsWorld w → IsRun w es
         → calls_of (after w es).machine.callers.receipts
         ≡ calls_of w.machine.callers.receipts ++ told_in w es }
+{}
+
+/// Over a run no call of a session is lost, and none ends twice: what it had and has asked is, in order, what has ended and
+/// what it has at last. The numbers that it is told follow its last one, one after the other; so those that end rise. A call
+/// that is told as made has a receipt then and later, and one that is given up never has one. Each receipt that comes to
+/// stand has the call that its session asked with its number.
+pub fn accounts()
+    ensures all { (w : World) (es : List (Event × List ℕ)) (s : ℕ) → IsWorld w → IsRun w es
+        → numbers_asked (open_in w s ++ asked_in s w es)
+        ≡ numbers_ended (ended_in s w es) ++ numbers_asked (open_in (after w es) s) }
+    ensures numbers { (w : World) (es : List (Event × List ℕ)) (s : ℕ) → IsWorld w → IsRun w es
+        → numbers_asked (asked_in s w es)
+        ≡ range_with_len ((w.machine.callers.sessions s).number + 1) (length (asked_in s w es)) }
+    ensures once { (w : World) (es : List (Event × List ℕ)) (s : ℕ) → IsWorld w → IsRun w es
+        → IsSession s → IsStrictlyIncreasing (numbers_ended (ended_in s w es)) }
+    ensures made { (w : World) (es : List (Event × List ℕ)) (s : ℕ) (x : Ended) → IsWorld w
+        → IsRun w es → Contains (ended_in s w es) x → x.made ≡ true
+        → HasReceipt (after w es) s x.number }
+    ensures given_up { (w : World) (es : List (Event × List ℕ)) (s : ℕ) (x : Ended) → IsWorld w
+        → IsRun w es → IsSession s → Contains (ended_in s w es) x → x.made ≡ false
+        → HasReceipt (after w es) s x.number → ⊥ }
+    ensures asked { (w : World) (es : List (Event × List ℕ)) (x : Standing) → IsWorld w
+        → IsRun w es → Contains (after w es).machine.callers.receipts x
+        → Contains w.machine.callers.receipts x
+        ⊎ Contains (open_in w x.receipt.position.session
+        ++ asked_in x.receipt.position.session w es) (asked_for x.receipt) }
 {}
 
 /// A call is made at the event that tells it as made: it is answered what the plain map answers that the words hold before,
