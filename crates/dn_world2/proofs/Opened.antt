@@ -1,4 +1,4 @@
-use Rattle.std.proofs.Common.{ℕ, zero, suc, ◌+◌, ◌*◌, ◌≡◌, ◌≢◌, ◌⊎◌, inl, inr, ◌<◌, ◌≤◌, ◌++◌, ◌∷◌, [], nat_eq, length, List, Option, Some, None, slice_set, refl, sym, ◌∙◌, ap, subst, arith}
+use Rattle.std.proofs.Common.{ℕ, zero, suc, ◌+◌, ◌≡◌, ◌≢◌, ◌⊎◌, inl, inr, ◌<◌, ◌≤◌, ◌++◌, ◌∷◌, [], nat_eq, length, List, None, refl, sym, ◌∙◌, ap, subst, arith}
 use Rattle.std.proofs.lemmas.Bool.{cases_eq}
 use Rattle.std.proofs.lemmas.Bool.Decides.{nat_tests}
 use Rattle.std.proofs.lemmas.List.Elements.{All-contains}
@@ -7,28 +7,25 @@ use Rattle.dn_word.specs.Format.{format_word}
 use Rattle.dn_word.specs.Regions.{format_at}
 use Rattle.dn_act.specs.Words.{IsZeros, word_at, pool_size}
 use Rattle.dn_act.proofs.Words.{word_at-set_same, word_at-set_other, length-set}
-use Rattle.dn_cluster.specs.Does.{Rests}
 use Rattle.dn_cluster.specs.Machine.{merger_in}
-use Rattle.dn_cluster.specs.State.{ClusterState, numbered}
+use Rattle.dn_cluster.specs.State.{numbered}
 use Rattle.dn_cluster.specs.declared.nodes.Node.{Node}
-use Rattle.dn_merge.specs.Merge.{Merging}
-use Rattle.dn_lane2.specs.State.{LaneState}
 use Rattle.dn_machine.specs.Sound.{IsSound}
 use Rattle.dn_machine.specs.State.{Machine, resting}
 use Rattle.dn_model.specs.Regions.{deed_at}
 use Rattle.dn_ring.specs.Ring.{IsOwner}
-use Rattle.dn_store.specs.Fresh.{first_deed, granted, IsFreshPool}
+use Rattle.dn_store.specs.Fresh.{first_deed, IsFreshPool}
 use Rattle.dn_outcomes.specs.Runs.{after}
 use Rattle.dn_outcomes.specs.Sound.{IsWorld}
 use Rattle.dn_outcomes.specs.State.{World, opened}
 use Rattle.dn_outcomes.proofs.Opening.{opening}
-use Rattle.dn_world2.specs.Opening.{adds_for, grants_to, lanes_to, formatted, IsOpened, IsNew, IsFormatted, MayGrantAll, AreGranted, all_granted, with_words}
+use Rattle.dn_world2.specs.Opening.{adds_for, grants_to, lanes_to, formatted, IsOpened, IsNew, IsFormatted, MayGrantAll, AreGranted, all_granted}
 use Rattle.dn_callers.specs.Callers.{Standing}
 use Rattle.dn_world2.specs.Happens.{CanBeSound}
 use Rattle.dn_world2.specs.State.{CrewState, WorldState, world_of}
 use Rattle.dn_world2.proofs.Adding.{HasAdded, has_added, added_sound}
 use Rattle.dn_world2.proofs.Changes.{same_world, where_false}
-use Rattle.dn_world2.proofs.Granting.{is_lane, after_both}
+use Rattle.dn_world2.proofs.Granting.{after_both}
 
 -- What an opening leaves.
 
@@ -82,7 +79,7 @@ pub ready_may : (segments n : ℕ) (words now : List ℕ) (x y : CrewState) → 
 ready_may segments n words now x y h =
     let has : HasAdded segments now n (world_of now y [] []) = ready_has segments n words now x y h in record {
       sound = subst IsWorld (sym (ready_is segments n words now x y h)) (added_sound (opened segments now) n
-      (opening segments now (subst (λ (k : ℕ). IsSound k (resting now)) h.new.segments_are (h.format.sound h.zeros h.new.rests))));
+          (opening segments now (subst (λ (k : ℕ). IsSound k (resting now)) h.new.segments_are (h.format.sound h.zeros h.new.rests))));
       order = has.order;
       some = some_lanes n y.live h.some has.live;
       deeds = λ slot lt. ap (λ (ws : List ℕ). word_at ws (deed_at slot)) (formatted_are segments n words now x y h) ∙ formatted_zero segments (deed_at slot) words h.zeros (λ e. omega (arith, e));

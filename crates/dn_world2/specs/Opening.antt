@@ -1,4 +1,4 @@
-use Rattle.std.specs.Prelude.{◌≡◌, ◌≢◌, ◌≤◌, ◌<◌, ◌++◌, ◌∷◌, [], ℕ, zero, suc, List, Option, Some, None, true, length, replicate, slice_set}
+use Rattle.std.specs.Prelude.{◌≡◌, ◌≢◌, ◌<◌, ◌++◌, ◌∷◌, [], ℕ, zero, suc, List, Some, None, true, length, replicate, slice_set}
 use Rattle.dn_act.specs.Action.{words_after}
 use Rattle.dn_act.specs.Words.{IsZeros, word_at}
 use Rattle.dn_cluster.specs.Acting.{format_of}

@@ -1,8 +1,7 @@
-use Rattle.std.proofs.Common.{ℕ, ◌≡◌, Bool, true, false, not, List, [], refl, sym, ◌∙◌, ap, subst}
+use Rattle.std.proofs.Common.{ℕ, ◌≡◌, Bool, true, false, not, List, refl, subst}
 use Rattle.dn_cluster.specs.Acting.{failed}
 use Rattle.dn_machine.specs.Sound.{IsSound}
 use Rattle.dn_machine.specs.State.{Machine}
-use Rattle.dn_world2.specs.Inside.{state_of}
 use Rattle.dn_world2.specs.Opening.{IsFormatted}
 use Rattle.dn_world2.specs.State.{CrewState}
 use Rattle.dn_world2.proofs.Refreshing.{not_failed}
@@ -23,18 +22,18 @@ returns g c =
     let now : List ℕ = g.M.Memory.words c.format.new.mem in
     elim c.match-matches.branch [
       | in-Fault w ↦ record {
-          done = λ t. absurd (negated c.match-matches.matches w.matches-is t);
-          same = λ t. absurd (negated c.match-matches.matches w.matches-is t);
-          fault = λ _. w.in-Fault.ensures.count.fault refl;
-        }
+        done = λ t. absurd (negated c.match-matches.matches w.matches-is t);
+        same = λ t. absurd (negated c.match-matches.matches w.matches-is t);
+        fault = λ _. w.in-Fault.ensures.count.fault refl;
+      }
       | in_default w ↦
-        let fine : failed c.format.result ≡ false = not_failed c.format.result w.in_default.not-Fault in
-        record {
-          done = λ _. subst (λ (z : CrewState). IsFormatted words z now) c.self.view_is (record {
-            words_are = c.format.ensures.words fine;
-            sound = λ zeros rests. subst (λ (m : Machine). IsSound c.self.inside.cluster.segments m) (rests.is now) (c.format.ensures.sound fine zeros rests);
-          });
-          same = λ _. c.format.ensures.count.done fine;
-          fault = λ t. absurd (negated_not c.match-matches.matches w.matches-is t);
-        }
+          let fine : failed c.format.result ≡ false = not_failed c.format.result w.in_default.not-Fault in
+          record {
+            done = λ _. subst (λ (z : CrewState). IsFormatted words z now) c.self.view_is (record {
+              words_are = c.format.ensures.words fine;
+              sound = λ zeros rests. subst (λ (m : Machine). IsSound c.self.inside.cluster.segments m) (rests.is now) (c.format.ensures.sound fine zeros rests);
+            });
+            same = λ _. c.format.ensures.count.done fine;
+            fault = λ t. absurd (negated_not c.match-matches.matches w.matches-is t);
+          }
     ]

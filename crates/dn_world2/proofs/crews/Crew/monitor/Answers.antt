@@ -9,9 +9,8 @@ use Rattle.dn_cluster.specs.Does.{Happens}
 use Rattle.dn_cluster.specs.declared.actors.Actor.TheVariants as actor
 use Rattle.dn_cluster.specs.declared.actors.Acted.{Acted}
 use Rattle.dn_outcomes.specs.Orders.{leaves_by, monitor, told_by}
-use Rattle.dn_outcomes.specs.declared.outcomes.Outcome.{Outcome}
 use Rattle.dn_outcomes.specs.declared.outcomes.Outcome.TheVariants as outcome
-use Rattle.dn_world2.specs.Comes.{Carries, bare, has_failed}
+use Rattle.dn_world2.specs.Comes.{has_failed}
 use Rattle.dn_world2.specs.Gives.{next_by}
 use Rattle.dn_cluster.specs.State.{ClusterState}
 use Rattle.dn_world2.specs.Inside.{state_of}
@@ -36,46 +35,46 @@ returns g c =
     let x : CrewState = state_of c.self.inside in
     elim c.match-act.branch [
       | in-Monitor w ↦ record {
-          came = λ _. carries_as words c.args.self.now x now c.match-act.self w.release.new.self c.match-act.result (told_by w.in-Monitor.turn) monitor c.self.view_is w.self-is (w.result-is ∙ w.told_by.ensures)
-          (monitor_done words x now c.act.new.self w.release.new.self w.in-Monitor.turn w.leaves_by-leaving.result (record {
-            acts = record {
-              happens_so = w.in-Monitor.ensures.event refl;
-              segments = w.in-Monitor.ensures.segments;
-              lanes = w.in-Monitor.ensures.lanes;
-              waiting = refl;
-              live = refl;
-            };
-            answer = w.in-Monitor.ensures.answer refl;
-            leaves = w.leaves_by-leaving.ensures
-            ∙ ap (λ (a : Option Action). leaves_by a w.in-Monitor.turn w.monitor_next.result) (c.monitor_next-action.ensures ∙ ap (λ (z : CrewState). next_by z.cluster.monitor) (sym c.self.view_is))
-            ∙ ap (λ (a : Option Action). leaves_by (next_by x.cluster.monitor) w.in-Monitor.turn a) w.monitor_next.ensures;
-            releases = w.release.ensures;
-          }));
-          fails = λ t. absurd (not_both (has_failed c.match-act.result) t (ap has_failed (w.result-is ∙ w.told_by.ensures) ∙ ordered_fine w.in-Monitor.turn));
-          same = λ t. absurd (not_both (has_failed c.match-act.result) t (ap has_failed (w.result-is ∙ w.told_by.ensures) ∙ ordered_fine w.in-Monitor.turn));
-          count = counts_done c.match-act.result _ _ (ap has_failed (w.result-is ∙ w.told_by.ensures) ∙ ordered_fine w.in-Monitor.turn) (w.in-Monitor.ensures.count.done refl);
-        }
+        came = λ _. carries_as words c.args.self.now x now c.match-act.self w.release.new.self c.match-act.result (told_by w.in-Monitor.turn) monitor c.self.view_is w.self-is (w.result-is ∙ w.told_by.ensures)
+            (monitor_done words x now c.act.new.self w.release.new.self w.in-Monitor.turn w.leaves_by-leaving.result (record {
+              acts = record {
+                happens_so = w.in-Monitor.ensures.event refl;
+                segments = w.in-Monitor.ensures.segments;
+                lanes = w.in-Monitor.ensures.lanes;
+                waiting = refl;
+                live = refl;
+              };
+              answer = w.in-Monitor.ensures.answer refl;
+              leaves = w.leaves_by-leaving.ensures
+                  ∙ ap (λ (a : Option Action). leaves_by a w.in-Monitor.turn w.monitor_next.result) (c.monitor_next-action.ensures ∙ ap (λ (z : CrewState). next_by z.cluster.monitor) (sym c.self.view_is))
+                  ∙ ap (λ (a : Option Action). leaves_by (next_by x.cluster.monitor) w.in-Monitor.turn a) w.monitor_next.ensures;
+              releases = w.release.ensures;
+            }));
+        fails = λ t. absurd (not_both (has_failed c.match-act.result) t (ap has_failed (w.result-is ∙ w.told_by.ensures) ∙ ordered_fine w.in-Monitor.turn));
+        same = λ t. absurd (not_both (has_failed c.match-act.result) t (ap has_failed (w.result-is ∙ w.told_by.ensures) ∙ ordered_fine w.in-Monitor.turn));
+        count = counts_done c.match-act.result _ _ (ap has_failed (w.result-is ∙ w.told_by.ensures) ∙ ordered_fine w.in-Monitor.turn) (w.in-Monitor.ensures.count.done refl);
+      }
       | in-Fault w ↦ record {
-          came = λ done. absurd (no_fault c.match-act.result (outcome.Fault actor.Monitor) w.result-is refl done);
-          fails = λ _. subst (λ (z : CrewState). MonitorFails words z now) c.self.view_is (w.in-Fault.ensures.fails refl);
-          same = λ _. w.self-is ∙ ap (λ (k : ClusterState). record x { cluster = k }) (w.in-Fault.ensures.same refl) ∙ c.self.view_is;
-          count = counts_fault c.match-act.result _ _ (ap has_failed w.result-is) (w.in-Fault.ensures.count.fault refl);
-        }
+        came = λ done. absurd (no_fault c.match-act.result (outcome.Fault actor.Monitor) w.result-is refl done);
+        fails = λ _. subst (λ (z : CrewState). MonitorFails words z now) c.self.view_is (w.in-Fault.ensures.fails refl);
+        same = λ _. w.self-is ∙ ap (λ (k : ClusterState). record x { cluster = k }) (w.in-Fault.ensures.same refl) ∙ c.self.view_is;
+        count = counts_fault c.match-act.result _ _ (ap has_failed w.result-is) (w.in-Fault.ensures.count.fault refl);
+      }
       | in_default w ↦
-        let fine : failed c.act.result ≡ false = not_failed c.act.result w.in_default.not-Fault in
-        let rests : (told : List Told) (receipts : List Standing) → MonitorRests (world_of words x told receipts) x.cluster.monitor c.act.result =
-        λ told receipts. monitor_rests (world_of words x told receipts) x.cluster.monitor c.act.result w.in_default.not-Monitor (c.act.ensures.answer fine) in
-        record {
-          came = λ _. carries_as words c.args.self.now x now c.match-act.self (record x { cluster = c.act.new.self }) c.match-act.result outcome.Nothing monitor c.self.view_is w.self-is w.result-is
-          (acts_rest words x now c.act.new.self (Acts Monitor) monitor (record {
-            happens_so = subst (λ (a : Acted). Happens words x.cluster now c.act.new.self (joined a) (Acts Monitor)) (rests [] []).is (c.act.ensures.event fine);
-            segments = c.act.ensures.segments;
-            lanes = c.act.ensures.lanes;
-            waiting = refl;
-            live = refl;
-          }) (λ told receipts. (rests told receipts).nothing) (λ told receipts. ap (λ (m : Machine). record (world_of words x told receipts) { machine = m }) (rests told receipts).same));
-          fails = λ t. absurd (not_both (has_failed c.match-act.result) t (ap has_failed w.result-is));
-          same = λ t. absurd (not_both (has_failed c.match-act.result) t (ap has_failed w.result-is));
-          count = counts_done c.match-act.result _ _ (ap has_failed w.result-is) (c.act.ensures.count.done fine);
-        }
+          let fine : failed c.act.result ≡ false = not_failed c.act.result w.in_default.not-Fault in
+          let rests : (told : List Told) (receipts : List Standing) → MonitorRests (world_of words x told receipts) x.cluster.monitor c.act.result =
+          λ told receipts. monitor_rests (world_of words x told receipts) x.cluster.monitor c.act.result w.in_default.not-Monitor (c.act.ensures.answer fine) in
+          record {
+            came = λ _. carries_as words c.args.self.now x now c.match-act.self (record x { cluster = c.act.new.self }) c.match-act.result outcome.Nothing monitor c.self.view_is w.self-is w.result-is
+                (acts_rest words x now c.act.new.self (Acts Monitor) monitor (record {
+                  happens_so = subst (λ (a : Acted). Happens words x.cluster now c.act.new.self (joined a) (Acts Monitor)) (rests [] []).is (c.act.ensures.event fine);
+                  segments = c.act.ensures.segments;
+                  lanes = c.act.ensures.lanes;
+                  waiting = refl;
+                  live = refl;
+                }) (λ told receipts. (rests told receipts).nothing) (λ told receipts. ap (λ (m : Machine). record (world_of words x told receipts) { machine = m }) (rests told receipts).same));
+            fails = λ t. absurd (not_both (has_failed c.match-act.result) t (ap has_failed w.result-is));
+            same = λ t. absurd (not_both (has_failed c.match-act.result) t (ap has_failed w.result-is));
+            count = counts_done c.match-act.result _ _ (ap has_failed w.result-is) (c.act.ensures.count.done fine);
+          }
     ]

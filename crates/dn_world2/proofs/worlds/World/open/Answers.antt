@@ -1,7 +1,5 @@
-use Rattle.std.proofs.Common.{ℕ, List, map, ap}
+use Rattle.std.proofs.Common.{List, map, ap}
 use Rattle.dn_world2.specs.Inside.{stands_as, world_in}
-use Rattle.dn_world2.specs.Opening.{IsOpened}
-use Rattle.dn_world2.specs.State.{WorldState}
 use Rattle.dn_world2.specs.declared.worlds.Standing.{Standing}
 use Rattle.dn_world2.proofs.Opened.{opened_world, opened_sound}
 use Rattle.dn_world2.proofs.worlds.World.open.Goals as goal
