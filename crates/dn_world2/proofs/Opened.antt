@@ -5,6 +5,9 @@ use Rattle.std.proofs.lemmas.List.Elements.{All-contains}
 use Rattle.std.proofs.lemmas.Option.{none-some}
 use Rattle.dn_word.specs.Format.{format_word}
 use Rattle.dn_word.specs.Regions.{format_at}
+use Rattle.dn_act.specs.Action.{MayPerform}
+use Rattle.dn_cluster.specs.Acting.{format_of}
+use Rattle.dn_machine.proofs.Formatting.{formats}
 use Rattle.dn_act.specs.Words.{IsZeros, word_at, pool_size}
 use Rattle.dn_act.proofs.Words.{word_at-set_same, word_at-set_other, length-set}
 use Rattle.dn_cluster.specs.Machine.{merger_in}
@@ -19,7 +22,7 @@ use Rattle.dn_outcomes.specs.Runs.{after}
 use Rattle.dn_outcomes.specs.Sound.{IsWorld}
 use Rattle.dn_outcomes.specs.State.{World, opened}
 use Rattle.dn_outcomes.proofs.Opening.{opening}
-use Rattle.dn_world2.specs.Opening.{adds_for, grants_to, lanes_to, formatted, IsOpened, IsNew, IsFormatted, MayGrantAll, AreGranted, all_granted}
+use Rattle.dn_world2.specs.Opening.{adds_for, grants_to, lanes_to, formatted, HasFormat, IsOpened, IsNew, MayGoOn, MayGrantAll, AreGranted, all_granted}
 use Rattle.dn_callers.specs.Callers.{Standing}
 use Rattle.dn_world2.specs.Happens.{CanBeSound}
 use Rattle.dn_world2.specs.State.{CrewState, WorldState, world_of}
@@ -50,7 +53,8 @@ pub record IsReady (segments n : ℕ) (words now : List ℕ) (x y : CrewState) :
   pub some : 1 ≤ n
   pub most : n ≤ 63
   pub new : IsNew segments x
-  pub format : IsFormatted words x now
+  pub few : segments ≤ 8192
+  pub format : now ≡ formatted segments words
   pub added : world_of now y [] [] ≡ after (world_of now x [] []) (adds_for n)
 
 abbrev ready_world : ℕ → ℕ → List ℕ → World
@@ -62,9 +66,6 @@ ready_is segments n words now x y h = h.added ∙ ap (λ (w : World). after w (a
 ready_has : (segments n : ℕ) (words now : List ℕ) (x y : CrewState) → IsReady segments n words now x y → HasAdded segments now n (world_of now y [] [])
 ready_has segments n words now x y h = subst (λ (w : World). HasAdded segments now n w) (sym (ready_is segments n words now x y h)) (has_added segments now n h.most)
 
-formatted_are : (segments n : ℕ) (words now : List ℕ) (x y : CrewState) → IsReady segments n words now x y → now ≡ formatted segments words
-formatted_are segments n words now x y h = h.format.words_are ∙ ap (λ (k : ℕ). formatted k words) h.new.segments_are
-
 some_lanes : (n : ℕ) (live : List ℕ) → 1 ≤ n → live ≡ lanes_to n → live ≢ []
 some_lanes zero live le e none = omega (arith, le)
 some_lanes (suc n) live le e none = none_last (lanes_to n) (sym e ∙ none) where
@@ -75,14 +76,17 @@ some_lanes (suc n) live le e none = none_last (lanes_to n) (sym e ∙ none) wher
 formatted_zero : (segments at : ℕ) (words : List ℕ) → IsZeros words → at ≢ 0 → word_at (formatted segments words) at ≡ 0
 formatted_zero segments at words zeros d = word_at-set_other words format_at at (format_word (record { segments = segments; number = 1 })) d ∙ zeros.each at
 
+pub ready_sound : (segments n : ℕ) (words now : List ℕ) (x y : CrewState) → IsReady segments n words now x y → IsWorld (world_of now y [] [])
+ready_sound segments n words now x y h = subst IsWorld (sym (ready_is segments n words now x y h)) (added_sound (opened segments now) n
+    (opening segments now (subst (λ (ws : List ℕ). IsSound segments (resting ws)) (sym h.format) (formats words segments [] h.zeros h.size h.few))))
+
 pub ready_may : (segments n : ℕ) (words now : List ℕ) (x y : CrewState) → IsReady segments n words now x y → MayGrantAll now y
 ready_may segments n words now x y h =
     let has : HasAdded segments now n (world_of now y [] []) = ready_has segments n words now x y h in record {
-      sound = subst IsWorld (sym (ready_is segments n words now x y h)) (added_sound (opened segments now) n
-          (opening segments now (subst (λ (k : ℕ). IsSound k (resting now)) h.new.segments_are (h.format.sound h.zeros h.new.rests))));
+      sound = ready_sound segments n words now x y h;
       order = has.order;
       some = some_lanes n y.live h.some has.live;
-      deeds = λ slot lt. ap (λ (ws : List ℕ). word_at ws (deed_at slot)) (formatted_are segments n words now x y h) ∙ formatted_zero segments (deed_at slot) words h.zeros (λ e. omega (arith, e));
+      deeds = λ slot lt. ap (λ (ws : List ℕ). word_at ws (deed_at slot)) (h.format) ∙ formatted_zero segments (deed_at slot) words h.zeros (λ e. omega (arith, e));
     }
 
 -- ---- the words
@@ -136,7 +140,7 @@ pub opened_so : (segments n : ℕ) (words mid : List ℕ) (x y : CrewState) (now
 opened_so segments n words mid x y now z h g =
     let has : HasAdded segments mid n (world_of mid y [] []) = ready_has segments n words mid x y h in
     let may : MayGrantAll mid y = ready_may segments n words mid x y h in
-    let formed : mid ≡ formatted segments words = formatted_are segments n words mid x y h in record {
+    let formed : mid ≡ formatted segments words = h.format in record {
       sound = g.sound;
       history = refl;
       segments_are = ap (λ (w : World). w.segments) g.is ∙ has.segments_are;
@@ -161,3 +165,14 @@ opened_world before words x h segments n e opened = subst (λ (hs : List Standin
 
 pub opened_sound : (before words : List ℕ) (w : WorldState) (segments n : ℕ) → IsOpened before words w segments n → CanBeSound words w
 opened_sound before words w segments n h = record { told = []; sound = subst (λ (hs : List Standing). IsWorld (world_of words w.crew [] hs)) (sym h.history) h.sound }
+
+-- ---- where an access failed
+-- the store that formats the pool was done or not done
+pub cut_off : (segments n : ℕ) (words now : List ℕ) (x y : CrewState) → (now ≡ formatted segments words → IsReady segments n words now x y) → IsZeros words
+    → MayPerform (format_of segments) words now → HasFormat segments now → MayGoOn now y
+cut_off segments n words now x y ready zeros (inl same) has =
+    absurd (let none : word_at now format_at ≡ 0 = ap (λ (ws : List ℕ). word_at ws format_at) same ∙ zeros.each format_at in omega (arith, has, none))
+cut_off segments n words now x y ready zeros (inr done) has = record { told = []; sound = ready_sound segments n words now x y (ready done) }
+
+pub goes_on_so : (words : List ℕ) (x : CrewState) (h : List Standing) → h ≡ [] → MayGoOn words x → CanBeSound words (record { crew = x; history = h })
+goes_on_so words x h e can = record { told = can.told; sound = subst (λ (hs : List Standing). IsWorld (world_of words x can.told hs)) (sym e) can.sound }
