@@ -44,31 +44,31 @@ returns g c =
     } in
     elim c.if-formatted.branch [
       | then-formatted w ↦
-        let kept : g.M.Memory.faults c.format-formatted.new.mem ≡ g.M.Memory.faults c.args.mem.now = w.if-formatted.ensures.same refl in
-        let count : g.M.Memory.faults c.if-formatted.mem ≡ g.M.Memory.faults w.grant_slots.new.mem = ap g.M.Memory.faults w.mem-is in
-        let words_are : now ≡ g.M.Memory.words w.grant_slots.new.mem = ap g.M.Memory.words w.mem-is in
-        let formed : mid ≡ formatted segments words = w.if-formatted.ensures.done refl ∙ ap (λ (k : ℕ). formatted k words) c.in_ok-crew.ensures.segments_are in
-        record {
-          opened = λ same.
-            subst (λ (z : CrewState). IsOpened words now (record { crew = z; history = [] }) segments c.args.nodes) (sym w.crew-is)
-            (subst (λ (ws : List ℕ). IsOpened words ws (record { crew = w.grant_slots.new.self; history = [] }) segments c.args.nodes) (sym words_are)
-            (opened_so segments c.args.nodes words mid c.in_ok-crew.crew c.add_lanes.new.self (g.M.Memory.words w.grant_slots.new.mem) w.grant_slots.new.self
-            (ready formed) (w.grant_slots.ensures.granted (sym count ∙ same ∙ sym kept))));
-          formatted = λ _.
-            subst (λ (z : CrewState). MayGoOn now z) (sym w.crew-is) (subst (λ (ws : List ℕ). MayGoOn ws w.grant_slots.new.self) (sym words_are) w.grant_slots.ensures.sound);
-          count = omega (arith, kept, count, w.grant_slots.ensures.count);
-        }
+          let kept : g.M.Memory.faults c.format-formatted.new.mem ≡ g.M.Memory.faults c.args.mem.now = w.if-formatted.ensures.same refl in
+          let count : g.M.Memory.faults c.if-formatted.mem ≡ g.M.Memory.faults w.grant_slots.new.mem = ap g.M.Memory.faults w.mem-is in
+          let words_are : now ≡ g.M.Memory.words w.grant_slots.new.mem = ap g.M.Memory.words w.mem-is in
+          let formed : mid ≡ formatted segments words = w.if-formatted.ensures.done refl ∙ ap (λ (k : ℕ). formatted k words) c.in_ok-crew.ensures.segments_are in
+          record {
+            opened = λ same.
+                subst (λ (z : CrewState). IsOpened words now (record { crew = z; history = [] }) segments c.args.nodes) (sym w.crew-is)
+                (subst (λ (ws : List ℕ). IsOpened words ws (record { crew = w.grant_slots.new.self; history = [] }) segments c.args.nodes) (sym words_are)
+                (opened_so segments c.args.nodes words mid c.in_ok-crew.crew c.add_lanes.new.self (g.M.Memory.words w.grant_slots.new.mem) w.grant_slots.new.self
+                (ready formed) (w.grant_slots.ensures.granted (sym count ∙ same ∙ sym kept))));
+            formatted = λ _.
+                subst (λ (z : CrewState). MayGoOn now z) (sym w.crew-is) (subst (λ (ws : List ℕ). MayGoOn ws w.grant_slots.new.self) (sym words_are) w.grant_slots.ensures.sound);
+            count = omega (arith, kept, count, w.grant_slots.ensures.count);
+          }
       | else-formatted w ↦
-        let lost = w.if-formatted.ensures.fault refl in
-        let count : g.M.Memory.faults c.if-formatted.mem ≡ g.M.Memory.faults c.format-formatted.new.mem = ap g.M.Memory.faults w.mem-is in
-        let words_are : now ≡ mid = ap g.M.Memory.words w.mem-is in
-        record {
-          opened = λ same. absurd (omega (arith, lost, count, same));
-          formatted = λ has.
-            subst (λ (z : CrewState). MayGoOn now z) (sym w.crew-is) (subst (λ (ws : List ℕ). MayGoOn ws c.add_lanes.new.self) (sym words_are)
-            (cut_off segments c.args.nodes words mid c.in_ok-crew.crew c.add_lanes.new.self ready c.requires.zeros
-            (subst (λ (k : ℕ). MayPerform (format_of k) words mid) c.in_ok-crew.ensures.segments_are (w.if-formatted.ensures.fails refl))
-            (subst (HasFormat segments) words_are has)));
-          count = omega (arith, lost, count);
-        }
+          let lost = w.if-formatted.ensures.fault refl in
+          let count : g.M.Memory.faults c.if-formatted.mem ≡ g.M.Memory.faults c.format-formatted.new.mem = ap g.M.Memory.faults w.mem-is in
+          let words_are : now ≡ mid = ap g.M.Memory.words w.mem-is in
+          record {
+            opened = λ same. absurd (omega (arith, lost, count, same));
+            formatted = λ has.
+                subst (λ (z : CrewState). MayGoOn now z) (sym w.crew-is) (subst (λ (ws : List ℕ). MayGoOn ws c.add_lanes.new.self) (sym words_are)
+                (cut_off segments c.args.nodes words mid c.in_ok-crew.crew c.add_lanes.new.self ready c.requires.zeros
+                (subst (λ (k : ℕ). MayPerform (format_of k) words mid) c.in_ok-crew.ensures.segments_are (w.if-formatted.ensures.fails refl))
+                (subst (HasFormat segments) words_are has)));
+            count = omega (arith, lost, count);
+          }
     ]
