@@ -18,11 +18,13 @@ use Rattle.dn_machine.specs.State.{Machine, resting}
 use Rattle.dn_model.specs.Regions.{deed_at}
 use Rattle.dn_ring.specs.Ring.{IsOwner}
 use Rattle.dn_store.specs.Fresh.{first_deed, IsFreshPool}
-use Rattle.dn_outcomes.specs.Runs.{after}
+use Rattle.dn_outcomes.specs.Does.{adds, does}
+use Rattle.dn_outcomes.specs.declared.events.Event.{Event}
+use Rattle.dn_outcomes.specs.Runs.{after, IsRun}
 use Rattle.dn_outcomes.specs.Sound.{IsWorld}
 use Rattle.dn_outcomes.specs.State.{World, opened}
 use Rattle.dn_outcomes.proofs.Opening.{opening}
-use Rattle.dn_world2.specs.Opening.{adds_for, grants_to, lanes_to, formatted, HasFormat, IsOpened, IsNew, MayGoOn, MayGrantAll, AreGranted, all_granted}
+use Rattle.dn_world2.specs.Opening.{adds_for, grants, grants_to, lanes_to, formatted, HasFormat, IsOpened, IsNew, MayGoOn, MayGrantAll, AreGranted, all_granted}
 use Rattle.dn_callers.specs.Callers.{Standing}
 use Rattle.dn_world2.specs.Happens.{CanBeSound}
 use Rattle.dn_world2.specs.State.{CrewState, WorldState, world_of}
@@ -134,6 +136,21 @@ owner_made words x slot lane n h made owner =
     let both = All-contains (λ (k : ℕ). (1 ≤ k) × (k ≤ length x.cluster.nodes)) x.live lane h.live.lanes owner.is_live in
     (both.0, omega (arith, both.1, made))
 
+-- ---- its events may happen
+run_both : (w : World) (es fs : List (Event × List ℕ)) → IsRun w es → IsRun (after w es) fs → IsRun w (es ++ fs)
+run_both w [] fs run then_run = then_run
+run_both w (e ∷ es) fs run then_run = (run.0, run_both (does w e.0 e.1).world es fs run.1 then_run)
+
+adds_run : (w : World) (n : ℕ) → IsRun w (adds_for n)
+adds_run w zero = tt
+adds_run w (suc n) = (tt, adds_run (adds w).world n)
+
+grants_run : (w : World) (owners : ℕ → ℕ) (n : ℕ) → n ≤ 64 → ((t : ℕ) → t < 64 → (0 < owners t) × (owners t < 64)) → IsRun w (grants_to owners n)
+grants_run w owners zero le each = tt
+grants_run w owners (suc n) le each =
+    let at = each n (omega (arith, le)) in
+    run_both w (grants_to owners n) (grants n (owners n)) (grants_run w owners n (omega (arith, le)) each) (((omega (arith, le), at.0, at.1), λ may none. tt), (tt, (tt, tt)))
+
 -- ---- all
 pub opened_so : (segments n : ℕ) (words mid : List ℕ) (x y : CrewState) (now : List ℕ) (z : CrewState) → IsReady segments n words mid x y → AreGranted mid y now z
     → IsOpened words now (record { crew = z; history = [] }) segments n
@@ -153,6 +170,9 @@ opened_so segments n words mid x y now z h g =
       ring = λ slot lt. subst (λ (live : List ℕ). IsOwner live slot (g.owners slot)) has.live (g.ring slot lt);
       fresh = fresh_so segments n words now g.owners h.size h.zeros h.some h.most (λ t lt. owner_made mid y t (g.owners t) n may.sound has.made (g.ring t lt))
           (ap (λ (w : World). w.machine.words) g.is ∙ ap (λ (ws : List ℕ). all_granted g.owners 64 ws) formed);
+      may = run_both (opened segments (formatted segments words)) (adds_for n) (grants_to g.owners 64) (adds_run (opened segments (formatted segments words)) n)
+          (grants_run (after (opened segments (formatted segments words)) (adds_for n)) g.owners 64 (omega arith)
+          (λ t lt. (let both = owner_made mid y t (g.owners t) n may.sound has.made (g.ring t lt) in (omega (arith, both.0), omega (arith, both.1, h.most)))));
       run = g.run ∙ ap (λ (w : World). after w (grants_to g.owners 64)) (ready_is segments n words mid x y h)
           ∙ sym (after_both (opened segments mid) (adds_for n) (grants_to g.owners 64))
           ∙ ap (λ (ws : List ℕ). after (opened segments ws) (adds_for n ++ grants_to g.owners 64)) formed;

@@ -18,7 +18,7 @@ use Rattle.dn_route.specs.CallersOrder.{Told}
 use Rattle.dn_callers.specs.Callers.{Standing}
 use Rattle.dn_store.specs.Fresh.{first_deed, IsFreshPool}
 use Rattle.dn_waiting.specs.State.{nothing_waits}
-use Rattle.dn_outcomes.specs.Runs.{after}
+use Rattle.dn_outcomes.specs.Runs.{after, IsRun}
 use Rattle.dn_outcomes.specs.Sound.{IsWorld}
 use Rattle.dn_outcomes.specs.State.{World, Done, opened, is_live}
 use Rattle.dn_outcomes.specs.declared.events.Event.{Event}
@@ -57,7 +57,8 @@ lanes_to (suc n) = lanes_to n ++ suc n ∷ []
 
 -- Over these words stands a sound world with lanes 1 to n, which are live. No call was made, no task waits, no order is
 -- under way, and no lane does anything. Each slot has its owner on the ring of these lanes, by its deed; of all words but
--- the format word and the deeds each is 0.
+-- the format word and the deeds each is 0. It is what a run of events leads to from the formatted pool: n lanes are added,
+-- and each slot is given to its owner.
 pub record IsOpened (before words : List ℕ) (w : WorldState) (segments n : ℕ) : Type 0 where
   pub sound : IsWorld (world_of words w.crew [] [])
   pub history : w.history ≡ []
@@ -70,6 +71,7 @@ pub record IsOpened (before words : List ℕ) (w : WorldState) (segments n : ℕ
   pub owners : ℕ → ℕ
   pub ring : (slot : ℕ) → slot < 64 → IsOwner (lanes_to n) slot (owners slot)
   pub fresh : IsFreshPool words segments n owners
+  pub may : IsRun (opened segments (formatted segments before)) (adds_for n ++ grants_to owners 64)
   pub run : world_of words w.crew [] [] ≡ after (opened segments (formatted segments before)) (adds_for n ++ grants_to owners 64)
 
 -- ---- its steps

@@ -22,10 +22,8 @@ use dn_outcomes::Outcome;
 use dn_ring::assign;
 use dn_waiting::Waiting;
 use dn_word::OutOfMemory;
+use dn_word::regions::SLOTS;
 use std::alloc::Global;
-
-/// How many slots there are.
-const SLOTS: u8 = 64;
 
 impl Crew {
     /// Opens a crew over a pool of zeros, with lanes 1 to `nodes`.
@@ -41,7 +39,8 @@ impl Crew {
         requires some { 1 ≤ nodes }
         requires most { nodes ≤ 63 }
         ensures opened { M.faults mem.new ≡ M.faults mem.old → IfOk result (λ crew. IsOpened
-            (M.words mem.old) (M.words mem.new) (record { crew = crew; history = [] }) segments nodes) }
+            (M.words mem.old) (M.words mem.new) (record { crew = crew; history = [] })
+            segments nodes) }
         ensures formatted { IfOk result (λ crew. HasFormat segments (M.words mem.new)
             → MayGoOn (M.words mem.new) crew) }
         ensures count { M.faults mem.old ≤ M.faults mem.new }
@@ -94,8 +93,8 @@ impl Crew {
     /// Gives each slot to its owner on the ring of the live lanes.
     fn grant_slots<M: Memory>(&mut self, mem: &mut M)
         requires { MayGrantAll (M.words mem.old) self.old }
-        ensures granted { M.faults mem.new ≡ M.faults mem.old → AreGranted (M.words mem.old) self.old
-            (M.words mem.new) self.new }
+        ensures granted { M.faults mem.new ≡ M.faults mem.old → AreGranted (M.words mem.old)
+            self.old (M.words mem.new) self.new }
         ensures sound { MayGoOn (M.words mem.new) self.new }
         ensures count { M.faults mem.old ≤ M.faults mem.new }
     {
@@ -108,8 +107,8 @@ impl Crew {
         requires can { MayGrantAll (M.words mem.old) self.old }
         requires owners { (slot : ℕ) → slot < 64
             → IsOwner self.old.live slot (slice_index lanes slot) }
-        ensures granted { M.faults mem.new ≡ M.faults mem.old → AreGranted (M.words mem.old) self.old
-            (M.words mem.new) self.new }
+        ensures granted { M.faults mem.new ≡ M.faults mem.old → AreGranted (M.words mem.old)
+            self.old (M.words mem.new) self.new }
         ensures sound { MayGoOn (M.words mem.new) self.new }
         ensures count { M.faults mem.old ≤ M.faults mem.new }
     {
