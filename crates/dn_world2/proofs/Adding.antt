@@ -1,24 +1,17 @@
-use Rattle.std.proofs.Common.{ℕ, zero, suc, ◌+◌, ◌≡◌, ◌≢◌, ◌<◌, ◌≤◌, ◌++◌, ◌∷◌, [], Bool, true, false, nat_lt, if◌then◌else◌, length, List, Option, Some, None, replicate, refl, sym, ◌∙◌, ap, subst, arith}
-use Rattle.std.proofs.lemmas.List.{append-nil}
+use Rattle.std.proofs.Common.{ℕ, zero, suc, ◌+◌, ◌≡◌, ◌<◌, ◌≤◌, ◌++◌, ◌∷◌, [], Bool, true, false, nat_lt, if◌then◌else◌, List, Option, Some, None, refl, sym, ◌∙◌, ap, subst, arith}
 use Rattle.std.proofs.lemmas.Bool.{lt-ltb}
 use Rattle.std.proofs.lemmas.Option.{none-some, same_Some}
 use Rattle.dn_lane2.specs.State.{LaneState, fresh}
 use Rattle.dn_lane2.specs.declared.modes.Mode.TheVariants.{Idle}
 use Rattle.dn_route.specs.CallersOrder.{Told}
-use Rattle.dn_callers.specs.Callers.{Standing}
-use Rattle.dn_machine.specs.Sound.{IsSound}
-use Rattle.dn_machine.specs.State.{resting}
 use Rattle.dn_store.proofs.At.{at_by}
 use Rattle.dn_waiting.specs.State.{nothing_waits}
-use Rattle.dn_outcomes.specs.Does.{adds, adds_lane, does}
+use Rattle.dn_outcomes.specs.Does.{adds, adds_lane}
 use Rattle.dn_outcomes.specs.Runs.{after}
 use Rattle.dn_outcomes.specs.Sound.{IsWorld}
 use Rattle.dn_outcomes.specs.State.{World, Done, done, opened}
-use Rattle.dn_outcomes.specs.declared.events.Event.{Event}
-use Rattle.dn_outcomes.specs.declared.events.Event.TheVariants.{Add}
 use Rattle.dn_outcomes.specs.declared.outcomes.Outcome.{Outcome}
 use Rattle.dn_outcomes.specs.declared.outcomes.Outcome.TheVariants.{LanesFull}
-use Rattle.dn_outcomes.proofs.Opening.{opening}
 use Rattle.dn_outcomes.proofs.Others.{adds_kept}
 use Rattle.dn_world2.specs.Comes.{Moves, bare}
 use Rattle.dn_world2.specs.Opening.{adds_for, lanes_to}
@@ -74,7 +67,12 @@ one_has segments words n w lt h =
 
 pub has_added : (segments : ℕ) (words : List ℕ) (n : ℕ) → n ≤ 63 → HasAdded segments words n (after (opened segments words) (adds_for n))
 has_added segments words zero le = record {
-  segments_are = refl; words_are = refl; made = refl; live = refl; waits = refl; order = refl;
+  segments_are = refl;
+  words_are = refl;
+  made = refl;
+  live = refl;
+  waits = refl;
+  order = refl;
   idle = λ k l is. absurd (none-some l is);
 }
 has_added segments words (suc n) le = subst (λ (w : World). HasAdded segments words (suc n) w) (sym (added_last (opened segments words) n))

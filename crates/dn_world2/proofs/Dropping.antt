@@ -1,21 +1,18 @@
-use Rattle.std.proofs.Common.{ℕ, ◌≡◌, ◌≤◌, Bool, true, false, List, [], Option, Some, None, refl, sym, ◌∙◌, ap, subst, arith}
+use Rattle.std.proofs.Common.{ℕ, ◌≡◌, Bool, true, false, List, [], Option, Some, None, refl, sym, ◌∙◌, ap, subst}
 use Rattle.std.proofs.lemmas.List.{append-nil}
-use Rattle.dn_act.specs.Action.{words_after}
 use Rattle.dn_act.specs.declared.actions.Action.{Action}
 use Rattle.dn_route.specs.CallersOrder.{Told}
 use Rattle.dn_callers.specs.Callers.{Standing}
-use Rattle.dn_machine.specs.Events.{Monitor as ByMonitor, Fails, Drops, of_monitor, monitor_fails, happens}
+use Rattle.dn_machine.specs.Events.{Monitor as ByMonitor, Fails, Drops, of_monitor, monitor_fails}
 use Rattle.dn_machine.specs.Sound.{IsSound}
 use Rattle.dn_machine.specs.State.{Machine}
 use Rattle.dn_machine.proofs.Kept.{sound}
 use Rattle.dn_monitor.specs.Monitor.{Monitoring, monitor_next}
-use Rattle.dn_outcomes.specs.Orders.{monitor}
 use Rattle.dn_outcomes.specs.Sound.{IsWorld}
 use Rattle.dn_outcomes.specs.State.{World, Done, with_event}
 use Rattle.dn_outcomes.specs.declared.outcomes.Outcome.{Outcome}
 use Rattle.dn_outcomes.specs.declared.outcomes.Outcome.TheVariants as outcome
 use Rattle.dn_cluster.specs.declared.actors.Actor.{Actor}
-use Rattle.dn_outcomes.proofs.Others.{monitor_kept}
 use Rattle.dn_world2.specs.Comes.{Turns, Carries, CanBeWorld, bare, has_failed}
 use Rattle.dn_world2.specs.Opening.{MayGoOn, MonitorFails, Leads}
 use Rattle.dn_world2.specs.State.{CrewState, world_of}
@@ -64,7 +61,7 @@ can_world words x h = record { told = h.told; receipts = []; sound = h.sound }
 pub leads_by : (words : List ℕ) (x : CrewState) (now : List ℕ) (y : CrewState) (o : Outcome) (f : World → Done) → Carries words x now y (bare o) f → Leads words x now y f
 leads_by words x now y o f h = record {
   is = λ told receipts sound.
-    (h.is told receipts sound).world ∙ ap (λ (rs : List Standing). world_of now y (f (world_of words x told receipts)).world.machine.callers.told rs) (append-nil receipts);
+      (h.is told receipts sound).world ∙ ap (λ (rs : List Standing). world_of now y (f (world_of words x told receipts)).world.machine.callers.told rs) (append-nil receipts);
 }
 
 pub may_lead : (words : List ℕ) (x : CrewState) (now : List ℕ) (y : CrewState) (f : World → Done) → Leads words x now y f → ((w : World) → IsWorld w → IsWorld (f w).world) → MayGoOn words x → MayGoOn now y

@@ -1,4 +1,4 @@
-use Rattle.std.proofs.Common.{ℕ, zero, suc, ◌+◌, ◌++◌, ◌∷◌, Contains, length, ◌≡◌, ◌≢◌, ◌<◌, ◌≤◌, ◌==◌, Bool, true, false, if◌then◌else◌, List, [], Option, Some, None, refl, sym, ◌∙◌, ap, subst, slice_set, arith}
+use Rattle.std.proofs.Common.{ℕ, zero, suc, ◌+◌, ◌++◌, ◌∷◌, Contains, length, ◌≡◌, ◌<◌, ◌≤◌, ◌==◌, Bool, true, List, [], Option, Some, None, refl, sym, ◌∙◌, ap, subst, slice_set, arith}
 use Rattle.std.specs.Option.{is_some}
 use Rattle.std.proofs.lemmas.List.{set-get_or, append-nil}
 use Rattle.dn_act.specs.Action.{words_after, word_after}
@@ -14,14 +14,13 @@ use Rattle.std.proofs.lemmas.List.Elements.{All-contains}
 use Rattle.std.proofs.lemmas.Map.Views.{list_any-from_Contains}
 use Rattle.dn_world2.proofs.Changes.{where_false}
 use Rattle.dn_monitor.specs.Grant.{granted_word}
-use Rattle.dn_monitor.specs.Monitor.{Monitoring, IsOrder, begun, monitor_next, monitor_turn, monitor_after}
+use Rattle.dn_monitor.specs.Monitor.{Monitoring, begun, monitor_next, monitor_turn, monitor_after}
 use Rattle.dn_monitor.specs.declared.orders.Order.TheVariants.{Move}
 use Rattle.dn_monitor.specs.declared.places.Errand.TheVariants.{Move as Moves_to}
 use Rattle.dn_monitor.specs.declared.places.MonitorPlace.TheVariants.{Grant}
 use Rattle.dn_route.specs.CallersOrder.{Told}
 use Rattle.dn_callers.specs.Callers.{Standing}
-use Rattle.dn_machine.specs.Events.{Orders, ordered}
-use Rattle.dn_machine.specs.State.{Machine}
+use Rattle.dn_machine.specs.Events.{ordered}
 use Rattle.dn_ring.specs.Ring.{IsOwner}
 use Rattle.std.specs.List.{list_any}
 use Rattle.dn_act.proofs.Words.{word_at-set_other}
@@ -31,7 +30,7 @@ use Rattle.dn_outcomes.specs.declared.events.Event.{Event}
 use Rattle.dn_store.specs.Fresh.{first_deed}
 use Rattle.dn_outcomes.specs.Orders.{give, monitor, release, leaves_by}
 use Rattle.dn_outcomes.specs.Sound.{IsWorld}
-use Rattle.dn_outcomes.specs.State.{World, Done, with_event, is_live}
+use Rattle.dn_outcomes.specs.State.{World, Done, is_live}
 use Rattle.dn_outcomes.specs.declared.outcomes.Outcome.{Outcome}
 use Rattle.dn_outcomes.proofs.Others.{give_kept, monitor_kept}
 use Rattle.dn_world2.specs.Comes.{Moves, bare}
@@ -80,7 +79,7 @@ exchanges w slot lane heirs pos e =
 pub moves_lead : (words : List ℕ) (x : CrewState) (now : List ℕ) (y : CrewState) (o : Outcome) (f : World → Done) → Moves words x now y (bare o) f → Leads words x now y f
 moves_lead words x now y o f h = record {
   is = λ told receipts sound.
-    (h.is told receipts).world ∙ ap (λ (rs : List Standing). world_of now y (f (world_of words x told receipts)).world.machine.callers.told rs) (append-nil receipts);
+      (h.is told receipts).world ∙ ap (λ (rs : List Standing). world_of now y (f (world_of words x told receipts)).world.machine.callers.told rs) (append-nil receipts);
 }
 
 -- nothing is told
@@ -196,5 +195,5 @@ all_so words x now y owners n e may ring so =
       ring = ring;
       is = is;
       run = is ∙ sym (grants_all (world_of words x [] []) owners 64 (omega arith) may.order
-      (λ t lt. (is_live_so x.live (owners t) (ring t lt).is_live, omega (arith, (is_lane words x t (owners t) may.sound (ring t lt)).0), may.deeds t lt)));
+          (λ t lt. (is_live_so x.live (owners t) (ring t lt).is_live, omega (arith, (is_lane words x t (owners t) may.sound (ring t lt)).0), may.deeds t lt)));
     }

@@ -1,35 +1,37 @@
-use Rattle.std.proofs.Common.{ℕ, zero, suc, ◌+◌, ◌*◌, ◌≡◌, ◌≢◌, ◌⊎◌, inl, inr, ◌<◌, ◌≤◌, ◌++◌, ◌∷◌, [], nat_eq, length, List, Option, Some, None, slice_set, refl, sym, ◌∙◌, ap, subst, arith}
+use Rattle.std.proofs.Common.{ℕ, zero, suc, ◌+◌, ◌≡◌, ◌≢◌, ◌⊎◌, inl, inr, ◌<◌, ◌≤◌, ◌++◌, ◌∷◌, [], nat_eq, length, List, None, refl, sym, ◌∙◌, ap, subst, arith}
 use Rattle.std.proofs.lemmas.Bool.{cases_eq}
 use Rattle.std.proofs.lemmas.Bool.Decides.{nat_tests}
 use Rattle.std.proofs.lemmas.List.Elements.{All-contains}
 use Rattle.std.proofs.lemmas.Option.{none-some}
 use Rattle.dn_word.specs.Format.{format_word}
 use Rattle.dn_word.specs.Regions.{format_at}
+use Rattle.dn_act.specs.Action.{MayPerform}
+use Rattle.dn_cluster.specs.Acting.{format_of}
+use Rattle.dn_machine.proofs.Formatting.{formats}
 use Rattle.dn_act.specs.Words.{IsZeros, word_at, pool_size}
 use Rattle.dn_act.proofs.Words.{word_at-set_same, word_at-set_other, length-set}
-use Rattle.dn_cluster.specs.Does.{Rests}
 use Rattle.dn_cluster.specs.Machine.{merger_in}
-use Rattle.dn_cluster.specs.State.{ClusterState, numbered}
+use Rattle.dn_cluster.specs.State.{numbered}
 use Rattle.dn_cluster.specs.declared.nodes.Node.{Node}
-use Rattle.dn_merge.specs.Merge.{Merging}
-use Rattle.dn_lane2.specs.State.{LaneState}
 use Rattle.dn_machine.specs.Sound.{IsSound}
 use Rattle.dn_machine.specs.State.{Machine, resting}
 use Rattle.dn_model.specs.Regions.{deed_at}
 use Rattle.dn_ring.specs.Ring.{IsOwner}
-use Rattle.dn_store.specs.Fresh.{first_deed, granted, IsFreshPool}
-use Rattle.dn_outcomes.specs.Runs.{after}
+use Rattle.dn_store.specs.Fresh.{first_deed, IsFreshPool}
+use Rattle.dn_outcomes.specs.Does.{adds, does}
+use Rattle.dn_outcomes.specs.declared.events.Event.{Event}
+use Rattle.dn_outcomes.specs.Runs.{after, IsRun}
 use Rattle.dn_outcomes.specs.Sound.{IsWorld}
 use Rattle.dn_outcomes.specs.State.{World, opened}
 use Rattle.dn_outcomes.proofs.Opening.{opening}
-use Rattle.dn_world2.specs.Opening.{adds_for, grants_to, lanes_to, formatted, IsOpened, IsNew, IsFormatted, MayGrantAll, AreGranted, all_granted, with_words}
+use Rattle.dn_world2.specs.Opening.{adds_for, grants, grants_to, lanes_to, formatted, HasFormat, IsOpened, IsNew, MayGoOn, MayGrantAll, AreGranted, all_granted}
 use Rattle.dn_callers.specs.Callers.{Standing}
 use Rattle.dn_drain.specs.declared.drains.Merged.{Merged}
 use Rattle.dn_world2.specs.Happens.{CanBeSound}
 use Rattle.dn_world2.specs.State.{CrewState, WorldState, world_of}
 use Rattle.dn_world2.proofs.Adding.{HasAdded, has_added, added_sound}
 use Rattle.dn_world2.proofs.Changes.{same_world, where_false}
-use Rattle.dn_world2.proofs.Granting.{is_lane, after_both}
+use Rattle.dn_world2.proofs.Granting.{after_both}
 
 -- What an opening leaves.
 
@@ -54,7 +56,8 @@ pub record IsReady (segments n : ℕ) (words now : List ℕ) (x y : CrewState) :
   pub some : 1 ≤ n
   pub most : n ≤ 63
   pub new : IsNew segments x
-  pub format : IsFormatted words x now
+  pub few : segments ≤ 8192
+  pub format : now ≡ formatted segments words
   pub added : world_of now y [] [] ≡ after (world_of now x [] []) (adds_for n)
 
 abbrev ready_world : ℕ → ℕ → List ℕ → World
@@ -66,9 +69,6 @@ ready_is segments n words now x y h = h.added ∙ ap (λ (w : World). after w (a
 ready_has : (segments n : ℕ) (words now : List ℕ) (x y : CrewState) → IsReady segments n words now x y → HasAdded segments now n (world_of now y [] [])
 ready_has segments n words now x y h = subst (λ (w : World). HasAdded segments now n w) (sym (ready_is segments n words now x y h)) (has_added segments now n h.most)
 
-formatted_are : (segments n : ℕ) (words now : List ℕ) (x y : CrewState) → IsReady segments n words now x y → now ≡ formatted segments words
-formatted_are segments n words now x y h = h.format.words_are ∙ ap (λ (k : ℕ). formatted k words) h.new.segments_are
-
 some_lanes : (n : ℕ) (live : List ℕ) → 1 ≤ n → live ≡ lanes_to n → live ≢ []
 some_lanes zero live le e none = omega (arith, le)
 some_lanes (suc n) live le e none = none_last (lanes_to n) (sym e ∙ none) where
@@ -79,14 +79,17 @@ some_lanes (suc n) live le e none = none_last (lanes_to n) (sym e ∙ none) wher
 formatted_zero : (segments at : ℕ) (words : List ℕ) → IsZeros words → at ≢ 0 → word_at (formatted segments words) at ≡ 0
 formatted_zero segments at words zeros d = word_at-set_other words format_at at (format_word (record { segments = segments; number = 1 })) d ∙ zeros.each at
 
+pub ready_sound : (segments n : ℕ) (words now : List ℕ) (x y : CrewState) → IsReady segments n words now x y → IsWorld (world_of now y [] [])
+ready_sound segments n words now x y h = subst IsWorld (sym (ready_is segments n words now x y h)) (added_sound (opened segments now) n
+    (opening segments now (subst (λ (ws : List ℕ). IsSound segments (resting ws)) (sym h.format) (formats words segments [] h.zeros h.size h.few))))
+
 pub ready_may : (segments n : ℕ) (words now : List ℕ) (x y : CrewState) → IsReady segments n words now x y → MayGrantAll now y
 ready_may segments n words now x y h =
     let has : HasAdded segments now n (world_of now y [] []) = ready_has segments n words now x y h in record {
-      sound = subst IsWorld (sym (ready_is segments n words now x y h)) (added_sound (opened segments now) n
-      (opening segments now (subst (λ (k : ℕ). IsSound k (resting now)) h.new.segments_are (h.format.sound h.zeros h.new.rests))));
+      sound = ready_sound segments n words now x y h;
       order = has.order;
       some = some_lanes n y.live h.some has.live;
-      deeds = λ slot lt. ap (λ (ws : List ℕ). word_at ws (deed_at slot)) (formatted_are segments n words now x y h) ∙ formatted_zero segments (deed_at slot) words h.zeros (λ e. omega (arith, e));
+      deeds = λ slot lt. ap (λ (ws : List ℕ). word_at ws (deed_at slot)) (h.format) ∙ formatted_zero segments (deed_at slot) words h.zeros (λ e. omega (arith, e));
     }
 
 -- ---- the words
@@ -134,13 +137,28 @@ owner_made words x slot lane n h made owner =
     let both = All-contains (λ (k : ℕ). (1 ≤ k) × (k ≤ length x.cluster.nodes)) x.live lane h.live.lanes owner.is_live in
     (both.0, omega (arith, both.1, made))
 
+-- ---- its events may happen
+run_both : (w : World) (es fs : List (Event × List ℕ)) → IsRun w es → IsRun (after w es) fs → IsRun w (es ++ fs)
+run_both w [] fs run then_run = then_run
+run_both w (e ∷ es) fs run then_run = (run.0, run_both (does w e.0 e.1).world es fs run.1 then_run)
+
+adds_run : (w : World) (n : ℕ) → IsRun w (adds_for n)
+adds_run w zero = tt
+adds_run w (suc n) = (tt, adds_run (adds w).world n)
+
+grants_run : (w : World) (owners : ℕ → ℕ) (n : ℕ) → n ≤ 64 → ((t : ℕ) → t < 64 → (0 < owners t) × (owners t < 64)) → IsRun w (grants_to owners n)
+grants_run w owners zero le each = tt
+grants_run w owners (suc n) le each =
+    let at = each n (omega (arith, le)) in
+    run_both w (grants_to owners n) (grants n (owners n)) (grants_run w owners n (omega (arith, le)) each) (((omega (arith, le), at.0, at.1), λ may none. tt), (tt, (tt, tt)))
+
 -- ---- all
 pub opened_so : (segments n : ℕ) (words mid : List ℕ) (x y : CrewState) (now : List ℕ) (z : CrewState) → IsReady segments n words mid x y → AreGranted mid y now z
     → IsOpened words now (record { crew = z; history = []; ended = [] }) segments n
 opened_so segments n words mid x y now z h g =
     let has : HasAdded segments mid n (world_of mid y [] []) = ready_has segments n words mid x y h in
     let may : MayGrantAll mid y = ready_may segments n words mid x y h in
-    let formed : mid ≡ formatted segments words = formatted_are segments n words mid x y h in record {
+    let formed : mid ≡ formatted segments words = h.format in record {
       sound = g.sound;
       history = refl;
       segments_are = ap (λ (w : World). w.segments) g.is ∙ has.segments_are;
@@ -153,6 +171,9 @@ opened_so segments n words mid x y now z h g =
       ring = λ slot lt. subst (λ (live : List ℕ). IsOwner live slot (g.owners slot)) has.live (g.ring slot lt);
       fresh = fresh_so segments n words now g.owners h.size h.zeros h.some h.most (λ t lt. owner_made mid y t (g.owners t) n may.sound has.made (g.ring t lt))
           (ap (λ (w : World). w.machine.words) g.is ∙ ap (λ (ws : List ℕ). all_granted g.owners 64 ws) formed);
+      may = run_both (opened segments (formatted segments words)) (adds_for n) (grants_to g.owners 64) (adds_run (opened segments (formatted segments words)) n)
+          (grants_run (after (opened segments (formatted segments words)) (adds_for n)) g.owners 64 (omega arith)
+          (λ t lt. (let both = owner_made mid y t (g.owners t) n may.sound has.made (g.ring t lt) in (omega (arith, both.0), omega (arith, both.1, h.most)))));
       run = g.run ∙ ap (λ (w : World). after w (grants_to g.owners 64)) (ready_is segments n words mid x y h)
           ∙ sym (after_both (opened segments mid) (adds_for n) (grants_to g.owners 64))
           ∙ ap (λ (ws : List ℕ). after (opened segments ws) (adds_for n ++ grants_to g.owners 64)) formed;
@@ -168,3 +189,14 @@ opened_world before words x h es segments n none done opened =
 
 pub opened_sound : (before words : List ℕ) (w : WorldState) (segments n : ℕ) → IsOpened before words w segments n → CanBeSound words w
 opened_sound before words w segments n h = record { told = []; sound = subst (λ (hs : List Standing). IsWorld (world_of words w.crew [] hs)) (sym h.history) h.sound }
+
+-- ---- where an access failed
+-- the store that formats the pool was done or not done
+pub cut_off : (segments n : ℕ) (words now : List ℕ) (x y : CrewState) → (now ≡ formatted segments words → IsReady segments n words now x y) → IsZeros words
+    → MayPerform (format_of segments) words now → HasFormat segments now → MayGoOn now y
+cut_off segments n words now x y ready zeros (inl same) has =
+    absurd (let none : word_at now format_at ≡ 0 = ap (λ (ws : List ℕ). word_at ws format_at) same ∙ zeros.each format_at in omega (arith, has, none))
+cut_off segments n words now x y ready zeros (inr done) has = record { told = []; sound = ready_sound segments n words now x y (ready done) }
+
+pub goes_on_so : (words : List ℕ) (x : CrewState) (h : List Standing) (es : List Merged) → h ≡ [] → MayGoOn words x → CanBeSound words (record { crew = x; history = h; ended = es })
+goes_on_so words x h es e can = record { told = can.told; sound = subst (λ (hs : List Standing). IsWorld (world_of words x can.told hs)) (sym e) can.sound }

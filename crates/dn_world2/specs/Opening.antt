@@ -1,6 +1,8 @@
-use Rattle.std.specs.Prelude.{◌≡◌, ◌≢◌, ◌≤◌, ◌<◌, ◌++◌, ◌∷◌, [], ℕ, zero, suc, List, Option, Some, None, true, length, replicate, slice_set}
+use Rattle.std.specs.Prelude.{◌≡◌, ◌≢◌, ◌<◌, ◌++◌, ◌∷◌, [], ℕ, zero, suc, List, Some, None, true, length, replicate, slice_set}
+use Rattle.dn_word.specs.Format.{format_word}
+use Rattle.dn_word.specs.Regions.{format_at}
 use Rattle.dn_act.specs.Action.{words_after}
-use Rattle.dn_act.specs.Words.{IsZeros, word_at}
+use Rattle.dn_act.specs.Words.{word_at}
 use Rattle.dn_cluster.specs.Acting.{format_of}
 use Rattle.dn_cluster.specs.Does.{Rests, FailsAs}
 use Rattle.dn_cluster.specs.Machine.{lane_in}
@@ -9,7 +11,6 @@ use Rattle.dn_lane2.specs.State.{LaneState}
 use Rattle.dn_lane2.specs.declared.modes.Mode.TheVariants.{Idle}
 use Rattle.dn_machine.specs.Events.{Fails, Monitor as ByMonitor}
 use Rattle.dn_machine.specs.Sound.{IsSound}
-use Rattle.dn_machine.specs.State.{resting}
 use Rattle.dn_model.specs.Regions.{deed_at}
 use Rattle.dn_monitor.specs.declared.orders.Order.TheVariants.{Move}
 use Rattle.dn_ring.specs.Ring.{IsOwner}
@@ -17,7 +18,7 @@ use Rattle.dn_route.specs.CallersOrder.{Told}
 use Rattle.dn_callers.specs.Callers.{Standing}
 use Rattle.dn_store.specs.Fresh.{first_deed, IsFreshPool}
 use Rattle.dn_waiting.specs.State.{nothing_waits}
-use Rattle.dn_outcomes.specs.Runs.{after}
+use Rattle.dn_outcomes.specs.Runs.{after, IsRun}
 use Rattle.dn_outcomes.specs.Sound.{IsWorld}
 use Rattle.dn_outcomes.specs.State.{World, Done, opened, is_live}
 use Rattle.dn_outcomes.specs.declared.events.Event.{Event}
@@ -44,6 +45,10 @@ grants_to owners (suc n) = grants_to owners n ++ grants n (owners n)
 abbrev pub formatted : ℕ → List ℕ → List ℕ
 formatted segments words = words_after (format_of segments) words
 
+-- the pool has its format word
+abbrev pub HasFormat : ℕ → List ℕ → Type 0
+HasFormat segments words = word_at words format_at ≡ format_word (record { segments = segments; number = 1 })
+
 -- ---- what it leaves
 -- the lanes 1 to n
 abbrev pub lanes_to : ℕ → List ℕ
@@ -52,7 +57,8 @@ lanes_to (suc n) = lanes_to n ++ suc n ∷ []
 
 -- Over these words stands a sound world with lanes 1 to n, which are live. No call was made, no task waits, no order is
 -- under way, and no lane does anything. Each slot has its owner on the ring of these lanes, by its deed; of all words but
--- the format word and the deeds each is 0.
+-- the format word and the deeds each is 0. It is what a run of events leads to from the formatted pool: n lanes are added,
+-- and each slot is given to its owner.
 pub record IsOpened (before words : List ℕ) (w : WorldState) (segments n : ℕ) : Type 0 where
   pub sound : IsWorld (world_of words w.crew [] [])
   pub history : w.history ≡ []
@@ -65,6 +71,7 @@ pub record IsOpened (before words : List ℕ) (w : WorldState) (segments n : ℕ
   pub owners : ℕ → ℕ
   pub ring : (slot : ℕ) → slot < 64 → IsOwner (lanes_to n) slot (owners slot)
   pub fresh : IsFreshPool words segments n owners
+  pub may : IsRun (opened segments (formatted segments before)) (adds_for n ++ grants_to owners 64)
   pub run : world_of words w.crew [] [] ≡ after (opened segments (formatted segments before)) (adds_for n ++ grants_to owners 64)
 
 -- ---- its steps
@@ -74,11 +81,6 @@ pub record IsNew (segments : ℕ) (x : CrewState) : Type 0 where
   pub rests : Rests x.cluster
   pub waits : x.waiting ≡ nothing_waits
   pub live : x.live ≡ []
-
--- the pool is formatted, which makes a pool of zeros sound
-pub record IsFormatted (words : List ℕ) (x : CrewState) (now : List ℕ) : Type 0 where
-  pub words_are : now ≡ formatted x.cluster.segments words
-  pub sound : IsZeros words → Rests x.cluster → IsSound x.cluster.segments (resting now)
 
 -- some told positions make it sound, where no receipt stands
 pub record MayGoOn (words : List ℕ) (x : CrewState) : Type 0 where

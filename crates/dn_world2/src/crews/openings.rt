@@ -1,8 +1,9 @@
 //! The opening of a crew over a pool of zeros.
 
 ghost use Rattle.std.specs.Prelude.{◌≡◌, ◌<◌, ◌≤◌, ℕ, List, [], IfOk, OnOk, true, false, slice_index, length};
+ghost use Rattle.dn_act.specs.Action.{MayPerform};
 ghost use Rattle.dn_act.specs.Words.{IsZeros, pool_size};
-ghost use Rattle.dn_cluster.specs.State.{ClusterState};
+ghost use Rattle.dn_cluster.specs.Acting.{format_of};
 ghost use Rattle.dn_machine.specs.Events.{Drops};
 ghost use Rattle.dn_outcomes.specs.Orders.{monitor};
 ghost use Rattle.dn_outcomes.specs.Runs.{after};
@@ -10,7 +11,7 @@ ghost use Rattle.dn_outcomes.specs.State.{with_event};
 ghost use Rattle.dn_ring.specs.Ring.{IsOwner};
 ghost use Rattle.dn_waiting.specs.Stops.{waiting_from};
 ghost use Rattle.dn_world2.specs.Comes.{Turns};
-ghost use Rattle.dn_world2.specs.Opening.{IsNew, MayGoOn, Leads, MayGrant, IsGranted, MayGrantAll, AreGranted, IsFormatted, IsOpened, adds_for};
+ghost use Rattle.dn_world2.specs.Opening.{IsNew, MayGoOn, Leads, MayGrant, IsGranted, MayGrantAll, AreGranted, HasFormat, IsOpened, formatted, adds_for};
 ghost use Rattle.dn_world2.specs.State.{world_of};
 
 use super::Crew;
@@ -21,10 +22,8 @@ use dn_outcomes::Outcome;
 use dn_ring::assign;
 use dn_waiting::Waiting;
 use dn_word::OutOfMemory;
+use dn_word::regions::SLOTS;
 use std::alloc::Global;
-
-/// How many slots there are.
-const SLOTS: u8 = 64;
 
 impl Crew {
     /// Opens a crew over a pool of zeros, with lanes 1 to `nodes`.
@@ -40,7 +39,10 @@ impl Crew {
         requires some { 1 ≤ nodes }
         requires most { nodes ≤ 63 }
         ensures opened { M.faults mem.new ≡ M.faults mem.old → IfOk result (λ crew. IsOpened
-            (M.words mem.old) (M.words mem.new) (record { crew = crew; history = []; ended = [] }) segments nodes) }
+            (M.words mem.old) (M.words mem.new) (record { crew = crew; history = []; ended = [] })
+            segments nodes) }
+        ensures formatted { IfOk result (λ crew. HasFormat segments (M.words mem.new)
+            → MayGoOn (M.words mem.new) crew) }
         ensures count { M.faults mem.old ≤ M.faults mem.new }
     {
         let mut crew = Crew::new(alloc, segments)?;
@@ -55,7 +57,10 @@ impl Crew {
     /// Formats the pool, and answers whether that was done.
     fn format<M: Memory>(&self, mem: &mut M) -> bool
         requires { length (M.words mem.old) ≡ pool_size self.now.cluster.segments }
-        ensures done { result ≡ true → IsFormatted (M.words mem.old) self.now (M.words mem.new) }
+        ensures done { result ≡ true → M.words mem.new
+            ≡ formatted self.now.cluster.segments (M.words mem.old) }
+        ensures fails { result ≡ false → MayPerform (format_of self.now.cluster.segments)
+            (M.words mem.old) (M.words mem.new) }
         ensures same { result ≡ true → M.faults mem.new ≡ M.faults mem.old }
         ensures fault { result ≡ false → M.faults mem.old < M.faults mem.new }
     {
@@ -88,8 +93,9 @@ impl Crew {
     /// Gives each slot to its owner on the ring of the live lanes.
     fn grant_slots<M: Memory>(&mut self, mem: &mut M)
         requires { MayGrantAll (M.words mem.old) self.old }
-        ensures granted { M.faults mem.new ≡ M.faults mem.old → AreGranted (M.words mem.old) self.old
-            (M.words mem.new) self.new }
+        ensures granted { M.faults mem.new ≡ M.faults mem.old → AreGranted (M.words mem.old)
+            self.old (M.words mem.new) self.new }
+        ensures sound { MayGoOn (M.words mem.new) self.new }
         ensures count { M.faults mem.old ≤ M.faults mem.new }
     {
         let lanes = assign(&self.live);
@@ -101,8 +107,9 @@ impl Crew {
         requires can { MayGrantAll (M.words mem.old) self.old }
         requires owners { (slot : ℕ) → slot < 64
             → IsOwner self.old.live slot (slice_index lanes slot) }
-        ensures granted { M.faults mem.new ≡ M.faults mem.old → AreGranted (M.words mem.old) self.old
-            (M.words mem.new) self.new }
+        ensures granted { M.faults mem.new ≡ M.faults mem.old → AreGranted (M.words mem.old)
+            self.old (M.words mem.new) self.new }
+        ensures sound { MayGoOn (M.words mem.new) self.new }
         ensures count { M.faults mem.old ≤ M.faults mem.new }
     {
         for slot in 0..SLOTS {

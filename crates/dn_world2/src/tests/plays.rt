@@ -32,10 +32,11 @@ pub struct Play {
 
 impl Model for Play {
     ghost use Rattle.dn_world2.specs.Happens.{CanBeSound};
+    ghost use Rattle.dn_world2.specs.State.{WorldState};
 
-    ghost Value = { Unit {0} };
+    ghost Value = { WorldState };
 
-    ghost view = { λ _. tt };
+    ghost view = { λ play. play.world };
 
     ghost invariant = { λ play. CanBeSound play.pool play.world };
 }
@@ -99,7 +100,7 @@ impl Play {
 
     /// The world does an event.
     fn event(&mut self, rt: &impl Abort, event: Event) -> Outcome
-        requires { MayBeGiven self.old.world event }
+        requires { MayBeGiven self.old event }
     {
         let Ok(outcome) = self.world.event(&mut self.pool, event) else {
             panic!(rt; "there is memory");

@@ -5,7 +5,7 @@ ghost use Rattle.dn_act.specs.Words.{IsZeros, pool_size};
 ghost use Rattle.dn_waiting.specs.Stops.{waiting_from};
 ghost use Rattle.dn_world2.specs.Happens.{CanBeSound};
 ghost use Rattle.dn_world2.specs.Inside.{stands_as};
-ghost use Rattle.dn_world2.specs.Opening.{IsOpened};
+ghost use Rattle.dn_world2.specs.Opening.{HasFormat, IsOpened};
 
 use super::{Standing, World};
 use crate::crews::Crew;
@@ -15,14 +15,14 @@ use dn_word::OutOfMemory;
 use std::alloc::Global;
 
 impl World {
-    /// Opens a world over a pool of zeros, of 1 to 8,192 segments, with lanes 1 to `nodes`, at most 63. The monitor formats
+    /// Opens a world over a pool of zeros, of at most 8,192 segments, with lanes 1 to `nodes`, at most 63. The monitor formats
     /// the pool, the lanes are added, all of them live, and each slot from 0 to 63 is given to its owner on the ring of these
     /// lanes: the monitor is given the order, and makes its two actions. That is 129 actions. Where each is done the world is
     /// sound, and it is what these events lead to; so the words are those of a fresh pool with these owners.
     ///
-    /// An access that failed raised the count of faults. It is passed over: that order is dropped, and the next slot follows;
-    /// where the pool isn't formatted no slot is given. Nothing is said of the world then. Want of memory comes before or
-    /// after the pool is formatted, and before any slot is given.
+    /// An access that failed raised the count of faults. It is passed over: that order is dropped, and the next slot follows.
+    /// The world is sound still where the pool has its format word; where it has none no slot was given, and nothing is said
+    /// of the world. Want of memory comes before any slot is given.
     pub fn open<M: Memory>(
         alloc: Global,
         mem: &mut M,
@@ -38,6 +38,8 @@ impl World {
             (M.words mem.old) (M.words mem.new) world segments nodes) }
         ensures sound { M.faults mem.new ≡ M.faults mem.old
             → IfOk result (CanBeSound (M.words mem.new)) }
+        ensures formatted { IfOk result (λ world. HasFormat segments (M.words mem.new)
+            → CanBeSound (M.words mem.new) world) }
         ensures count { M.faults mem.old ≤ M.faults mem.new }
     {
         let crew = Crew::open(alloc, mem, segments, nodes)?;

@@ -1,4 +1,4 @@
-use Rattle.std.proofs.Common.{ℕ, ◌≡◌, ◌≤◌, List, []}
+use Rattle.std.proofs.Common.{ℕ, ◌≡◌, List, []}
 use Rattle.dn_outcomes.specs.Runs.{after}
 use Rattle.dn_world2.specs.Opening.{adds_for}
 use Rattle.dn_world2.specs.State.{world_of}

@@ -1,9 +1,8 @@
-use Rattle.std.proofs.Common.{ℕ, ◌≡◌, false, List, refl, ap, arith}
+use Rattle.std.proofs.Common.{ℕ, ◌≡◌, false, List, refl, arith}
 use Rattle.dn_outcomes.specs.Orders.{monitor}
 use Rattle.dn_outcomes.proofs.Others.{monitor_kept}
 use Rattle.dn_world2.specs.Comes.{has_failed}
 use Rattle.dn_world2.specs.Opening.{Leads}
-use Rattle.dn_world2.specs.State.{CrewState}
 use Rattle.dn_world2.proofs.Dropping.{may_drop, leads_by, may_lead, is_fine}
 use Rattle.dn_world2.proofs.crews.Crew.carry_on.Goals as goal
 

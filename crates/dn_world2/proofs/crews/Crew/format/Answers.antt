@@ -1,9 +1,7 @@
-use Rattle.std.proofs.Common.{ℕ, ◌≡◌, Bool, true, false, not, List, [], refl, sym, ◌∙◌, ap, subst}
-use Rattle.dn_cluster.specs.Acting.{failed}
-use Rattle.dn_machine.specs.Sound.{IsSound}
-use Rattle.dn_machine.specs.State.{Machine}
-use Rattle.dn_world2.specs.Inside.{state_of}
-use Rattle.dn_world2.specs.Opening.{IsFormatted}
+use Rattle.std.proofs.Common.{ℕ, ◌≡◌, Bool, true, false, not, List, refl, subst}
+use Rattle.dn_act.specs.Action.{MayPerform}
+use Rattle.dn_cluster.specs.Acting.{failed, format_of}
+use Rattle.dn_world2.specs.Opening.{formatted}
 use Rattle.dn_world2.specs.State.{CrewState}
 use Rattle.dn_world2.proofs.Refreshing.{not_failed}
 use Rattle.dn_world2.proofs.crews.Crew.format.Goals as goal
@@ -23,18 +21,17 @@ returns g c =
     let now : List ℕ = g.M.Memory.words c.format.new.mem in
     elim c.match-matches.branch [
       | in-Fault w ↦ record {
-          done = λ t. absurd (negated c.match-matches.matches w.matches-is t);
-          same = λ t. absurd (negated c.match-matches.matches w.matches-is t);
-          fault = λ _. w.in-Fault.ensures.count.fault refl;
-        }
+        done = λ t. absurd (negated c.match-matches.matches w.matches-is t);
+        fails = λ _. subst (λ (z : CrewState). MayPerform (format_of z.cluster.segments) words now) c.self.view_is (w.in-Fault.ensures.fails refl);
+        same = λ t. absurd (negated c.match-matches.matches w.matches-is t);
+        fault = λ _. w.in-Fault.ensures.count.fault refl;
+      }
       | in_default w ↦
-        let fine : failed c.format.result ≡ false = not_failed c.format.result w.in_default.not-Fault in
-        record {
-          done = λ _. subst (λ (z : CrewState). IsFormatted words z now) c.self.view_is (record {
-            words_are = c.format.ensures.words fine;
-            sound = λ zeros rests. subst (λ (m : Machine). IsSound c.self.inside.cluster.segments m) (rests.is now) (c.format.ensures.sound fine zeros rests);
-          });
-          same = λ _. c.format.ensures.count.done fine;
-          fault = λ t. absurd (negated_not c.match-matches.matches w.matches-is t);
-        }
+          let fine : failed c.format.result ≡ false = not_failed c.format.result w.in_default.not-Fault in
+          record {
+            done = λ _. subst (λ (z : CrewState). now ≡ formatted z.cluster.segments words) c.self.view_is (c.format.ensures.words fine);
+            fails = λ t. absurd (negated_not c.match-matches.matches w.matches-is t);
+            same = λ _. c.format.ensures.count.done fine;
+            fault = λ t. absurd (negated_not c.match-matches.matches w.matches-is t);
+          }
     ]

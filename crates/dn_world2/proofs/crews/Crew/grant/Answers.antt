@@ -1,4 +1,4 @@
-use Rattle.std.proofs.Common.{ℕ, ◌≡◌, List, arith}
+use Rattle.std.proofs.Common.{ℕ, List, arith}
 use Rattle.dn_world2.proofs.Granting.{given_on, granted_so}
 use Rattle.dn_world2.proofs.crews.Crew.grant.Goals as goal
 

@@ -1,4 +1,4 @@
-use Rattle.std.proofs.Common.{ℕ, ◌≡◌, ◌<◌, ◌≤◌, List, [], slice_index, sym, ◌∙◌, ap, subst, arith}
+use Rattle.std.proofs.Common.{ℕ, ◌<◌, List, [], slice_index, sym, subst, arith}
 use Rattle.dn_world2.specs.Opening.{IsGranted, MayGrant}
 use Rattle.dn_world2.proofs.Granting.{IsSoFar, is_lane, may_grant, so_far_none, so_far_more, all_so}
 use Rattle.dn_world2.proofs.crews.Crew.grant_each.Goals as goal
@@ -30,12 +30,12 @@ loop-slot-preserved g c =
     record {
       sound = c.grant.ensures.sound;
       granted = λ same.
-        let so : IsSoFar words c.args.self.now mid c.loop-slot.self owners slot = c.loop-slot.invariant.granted (omega (arith, same, c.loop-slot.invariant.count, c.grant.ensures.count)) in
-        so_far_more words c.args.self.now mid c.loop-slot.self now c.grant.new.self owners slot so
-        (subst (λ (i : ℕ). IsGranted mid c.loop-slot.self now c.grant.new.self slot (slice_index c.args.lanes i)) c.from.ensures
-        (c.grant.ensures.granted (omega (arith, same, c.loop-slot.invariant.count, c.grant.ensures.count))
-        (subst (λ (i : ℕ). MayGrant mid c.loop-slot.self slot (slice_index c.args.lanes i)) (sym c.from.ensures)
-        (may_grant words c.args.self.now mid c.loop-slot.self owners slot c.loop-slot-test.true c.requires.can (c.requires.owners slot c.loop-slot-test.true) so))));
+          let so : IsSoFar words c.args.self.now mid c.loop-slot.self owners slot = c.loop-slot.invariant.granted (omega (arith, same, c.loop-slot.invariant.count, c.grant.ensures.count)) in
+          so_far_more words c.args.self.now mid c.loop-slot.self now c.grant.new.self owners slot so
+          (subst (λ (i : ℕ). IsGranted mid c.loop-slot.self now c.grant.new.self slot (slice_index c.args.lanes i)) c.from.ensures
+          (c.grant.ensures.granted (omega (arith, same, c.loop-slot.invariant.count, c.grant.ensures.count))
+          (subst (λ (i : ℕ). MayGrant mid c.loop-slot.self slot (slice_index c.args.lanes i)) (sym c.from.ensures)
+          (may_grant words c.args.self.now mid c.loop-slot.self owners slot c.loop-slot-test.true c.requires.can (c.requires.owners slot c.loop-slot-test.true) so))));
       count = omega (arith, c.loop-slot.invariant.count, c.grant.ensures.count);
     }
 

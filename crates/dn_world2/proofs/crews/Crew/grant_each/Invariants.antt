@@ -1,4 +1,4 @@
-use Rattle.std.proofs.Common.{ℕ, ◌≡◌, ◌≤◌, List, slice_index}
+use Rattle.std.proofs.Common.{ℕ, ◌≡◌, ◌≤◌, slice_index}
 use Rattle.dn_world2.specs.Opening.{MayGoOn}
 use Rattle.dn_world2.proofs.Granting.{IsSoFar}
 use Rattle.dn_world2.proofs.crews.Crew.grant_each.Given as goal

@@ -1,4 +1,4 @@
-use Rattle.std.proofs.Common.{ℕ, ◌≡◌, ◌<◌, ◌≤◌, ◌≢◌, List, [], All, slice_index, sym, ◌∙◌, ap, subst, arith}
+use Rattle.std.proofs.Common.{ℕ, ◌<◌, ◌≤◌, List, All, slice_index, sym, ◌∙◌, ap, subst}
 use Rattle.std.specs.List.Sorted.{IsStrictlyIncreasing}
 use Rattle.dn_ring.specs.Ring.{IsOwner}
 use Rattle.dn_world2.specs.State.{CrewState}
@@ -17,6 +17,6 @@ pub grant_each-requires : goal.grant_each-requires
 grant_each-requires g c = record {
   can = c.requires;
   owners = λ slot lt.
-    let e = c.deref.ensures.value ∙ ap (λ (z : CrewState). z.live) c.self.view_is in
-    subst (λ (live : List ℕ). IsOwner live slot (slice_index c.assign-lanes.result slot)) e (c.assign-lanes.ensures.owners (λ none. c.requires.some (sym e ∙ none)) slot lt);
+      let e = c.deref.ensures.value ∙ ap (λ (z : CrewState). z.live) c.self.view_is in
+      subst (λ (live : List ℕ). IsOwner live slot (slice_index c.assign-lanes.result slot)) e (c.assign-lanes.ensures.owners (λ none. c.requires.some (sym e ∙ none)) slot lt);
 }
