@@ -182,6 +182,31 @@ fn moves(rt: &impl Abort, play: &mut Play, from: u8, to: u8) {
     assert_eq!(rt; play.monitor(rt), Outcome::Nothing);
 }
 
+/// A session whose route is stale is refused, and refused again by the lane that the slot left meanwhile; the deed is then
+/// loaded once more, and the call, which keeps its number, is made by the owner.
+#[test]
+fn a_stale_route(rt: HostRuntime) -> Result<(), Fail> {
+    let mut play = Play::new(&rt, rt.alloc(), 2)?;
+    let from = owner(&rt, &mut play);
+    assert_eq!(rt; play.start(&rt, 1, None, GET), Outcome::Numbered { number: 1 });
+    assert_eq!(rt; play.load(&rt, 1), Outcome::Acted);
+    assert_eq!(rt; run(&rt, &mut play, from), made(1, 1, Way::Index));
+    moves(&rt, &mut play, from, 3 - from);
+    let call = put(rt.alloc(), b'a')?;
+    assert_eq!(rt; play.start(&rt, 1, None, call), Outcome::Numbered { number: 2 });
+    assert_eq!(rt; play.load(&rt, 1), Outcome::Nothing);
+    let refused = play.step(&rt, from);
+    assert!(rt; matches!(refused, Outcome::Answered { session: 1, number: 2, given: false, .. }));
+    assert_eq!(rt; play.load(&rt, 1), Outcome::Acted);
+    moves(&rt, &mut play, 3 - from, from);
+    let refused = play.step(&rt, 3 - from);
+    assert!(rt; matches!(refused, Outcome::Answered { session: 1, number: 2, given: false, .. }));
+    assert_eq!(rt; play.load(&rt, 1), Outcome::Acted);
+    assert_eq!(rt; run(&rt, &mut play, from), made(1, 2, Way::Index));
+    assert_eq!(rt; play.history().len(), 2);
+    Ok(())
+}
+
 /// The slot leaves each lane before that takes the call up. The eighth refused attempt gives the call up, and no deed is
 /// loaded for it any more: the session's next call has the next number, and goes by the route that was loaded last.
 #[test]
