@@ -78,8 +78,17 @@ fn last(rt: &impl Abort, play: &Play) -> (u32, u32, u32) {
 }
 
 /// A session's first call on key 5, up to its answer at a lane.
-fn first_put(rt: &impl Abort, alloc: Global, play: &mut Play, session: u32, lane: u8) -> Result<(), Fail> {
-    assert_eq!(rt; play.start(rt, session, None, put(alloc, b'a')?), Outcome::Numbered { number: 1 });
+fn first_put(
+    rt: &impl Abort,
+    alloc: Global,
+    play: &mut Play,
+    session: u32,
+    lane: u8,
+) -> Result<(), Fail> {
+    assert_eq!(rt;
+        play.start(rt, session, None, put(alloc, b'a')?),
+        Outcome::Numbered { number: 1 }
+    );
     assert_eq!(rt; play.load(rt, session), Outcome::Acted);
     assert_eq!(rt; run(rt, play, lane), made(session, 1, Way::Index));
     Ok(())
@@ -91,7 +100,10 @@ fn a_put_action_by_action(rt: HostRuntime) -> Result<(), Fail> {
     assert_eq!(rt; play.load(&rt, 1), Outcome::Nothing);
     assert_eq!(rt; play.step(&rt, 1), Outcome::Nothing);
     let call = put(rt.alloc(), b'a')?;
-    assert_eq!(rt; play.start(&rt, 1, None, call), Outcome::Numbered { number: 1 });
+    assert_eq!(rt;
+        play.start(&rt, 1, None, call),
+        Outcome::Numbered { number: 1 }
+    );
     assert_eq!(rt; play.step(&rt, 1), Outcome::Nothing);
     assert_eq!(rt; play.load(&rt, 1), Outcome::Acted);
     for _ in 0..12 {
@@ -101,14 +113,19 @@ fn a_put_action_by_action(rt: HostRuntime) -> Result<(), Fail> {
     assert_eq!(rt; play.step(&rt, 1), made(1, 1, Way::Index));
     assert_eq!(rt; (play.history().len(), last(&rt, &play)), (1, (1, 0, 1)));
     assert_eq!(rt; play.step(&rt, 1), Outcome::Nothing);
-    assert_eq!(rt; play.start(&rt, 2, None, GET), Outcome::Numbered { number: 1 });
+    assert_eq!(rt;
+        play.start(&rt, 2, None, GET),
+        Outcome::Numbered { number: 1 }
+    );
     assert_eq!(rt; play.load(&rt, 2), Outcome::Acted);
     assert_eq!(rt; run(&rt, &mut play, 1), made(2, 1, Way::Pending));
     assert_eq!(rt; (play.history().len(), last(&rt, &play)), (2, (1, 1, 2)));
     let Some(found) = play.history().last() else {
         return Err(Fail::new("two receipts"));
     };
-    assert!(rt; matches!(&found.receipt.reply, Reply::Value(value) if value.as_bytes() == b"a".as_slice()));
+    assert!(rt;
+        matches!(&found.receipt.reply, Reply::Value(value) if value.as_bytes() == b"a".as_slice())
+    );
     Ok(())
 }
 
@@ -116,7 +133,10 @@ fn a_put_action_by_action(rt: HostRuntime) -> Result<(), Fail> {
 fn words_out_of_order(rt: HostRuntime) -> Result<(), Fail> {
     let mut play = Play::new(&rt, rt.alloc(), 1)?;
     let call = put(rt.alloc(), b'a')?;
-    assert_eq!(rt; play.start(&rt, 1, None, call), Outcome::Numbered { number: 1 });
+    assert_eq!(rt;
+        play.start(&rt, 1, None, call),
+        Outcome::Numbered { number: 1 }
+    );
     assert_eq!(rt; play.load(&rt, 1), Outcome::Acted);
     assert_eq!(rt; play.flow(&rt, 1, 0), Outcome::Nothing);
     for _ in 0..8 {
@@ -138,7 +158,10 @@ fn words_out_of_order(rt: HostRuntime) -> Result<(), Fail> {
 fn a_named_lane_refuses(rt: HostRuntime) -> Result<(), Fail> {
     let mut play = Play::new(&rt, rt.alloc(), 4)?;
     first_put(&rt, rt.alloc(), &mut play, 1, 2)?;
-    assert_eq!(rt; play.start(&rt, 1, Some(3), GET), Outcome::Numbered { number: 2 });
+    assert_eq!(rt;
+        play.start(&rt, 1, Some(3), GET),
+        Outcome::Numbered { number: 2 }
+    );
     assert_eq!(rt; play.load(&rt, 1), Outcome::Nothing);
     assert_eq!(rt; play.step(&rt, 2), Outcome::Nothing);
     let refused = Outcome::Answered {
@@ -155,10 +178,22 @@ fn a_named_lane_refuses(rt: HostRuntime) -> Result<(), Fail> {
     assert_eq!(rt; play.load(&rt, 1), Outcome::Acted);
     assert_eq!(rt; run(&rt, &mut play, 2), made(1, 2, Way::Pending));
     assert_eq!(rt; last(&rt, &play), (1, 1, 1));
-    assert_eq!(rt; play.start(&rt, 2, Some(3), GET), Outcome::Numbered { number: 1 });
+    assert_eq!(rt;
+        play.start(&rt, 2, Some(3), GET),
+        Outcome::Numbered { number: 1 }
+    );
     assert_eq!(rt; play.load(&rt, 2), Outcome::Acted);
     assert_eq!(rt; play.step(&rt, 2), Outcome::Nothing);
-    assert!(rt; matches!(play.step(&rt, 3), Outcome::Answered { session: 2, number: 1, .. }));
+    assert!(rt;
+        matches!(
+            play.step(&rt, 3),
+            Outcome::Answered {
+                session: 2,
+                number: 1,
+                ..
+            }
+        )
+    );
     Ok(())
 }
 
@@ -178,7 +213,12 @@ fn moves(rt: &impl Abort, play: &mut Play, from: u8, to: u8) {
     assert_eq!(rt; play.monitor(rt), Outcome::Acted);
     assert_eq!(rt; play.step(rt, from), Outcome::Acted);
     assert_eq!(rt; play.step(rt, from), Outcome::Tended(TaskAnswer::Released));
-    assert!(rt; matches!(order(rt, play), Outcome::Ordered(MonitorAnswer::Granted { .. })));
+    assert!(rt;
+        matches!(
+            order(rt, play),
+            Outcome::Ordered(MonitorAnswer::Granted { .. })
+        )
+    );
     assert_eq!(rt; play.monitor(rt), Outcome::Nothing);
 }
 
@@ -188,19 +228,45 @@ fn moves(rt: &impl Abort, play: &mut Play, from: u8, to: u8) {
 fn a_stale_route(rt: HostRuntime) -> Result<(), Fail> {
     let mut play = Play::new(&rt, rt.alloc(), 2)?;
     let from = owner(&rt, &mut play);
-    assert_eq!(rt; play.start(&rt, 1, None, GET), Outcome::Numbered { number: 1 });
+    assert_eq!(rt;
+        play.start(&rt, 1, None, GET),
+        Outcome::Numbered { number: 1 }
+    );
     assert_eq!(rt; play.load(&rt, 1), Outcome::Acted);
     assert_eq!(rt; run(&rt, &mut play, from), made(1, 1, Way::Index));
     moves(&rt, &mut play, from, 3 - from);
     let call = put(rt.alloc(), b'a')?;
-    assert_eq!(rt; play.start(&rt, 1, None, call), Outcome::Numbered { number: 2 });
+    assert_eq!(rt;
+        play.start(&rt, 1, None, call),
+        Outcome::Numbered { number: 2 }
+    );
     assert_eq!(rt; play.load(&rt, 1), Outcome::Nothing);
     let refused = play.step(&rt, from);
-    assert!(rt; matches!(refused, Outcome::Answered { session: 1, number: 2, given: false, .. }));
+    assert!(rt;
+        matches!(
+            refused,
+            Outcome::Answered {
+                session: 1,
+                number: 2,
+                given: false,
+                ..
+            }
+        )
+    );
     assert_eq!(rt; play.load(&rt, 1), Outcome::Acted);
     moves(&rt, &mut play, 3 - from, from);
     let refused = play.step(&rt, 3 - from);
-    assert!(rt; matches!(refused, Outcome::Answered { session: 1, number: 2, given: false, .. }));
+    assert!(rt;
+        matches!(
+            refused,
+            Outcome::Answered {
+                session: 1,
+                number: 2,
+                given: false,
+                ..
+            }
+        )
+    );
     assert_eq!(rt; play.load(&rt, 1), Outcome::Acted);
     assert_eq!(rt; run(&rt, &mut play, from), made(1, 2, Way::Index));
     assert_eq!(rt; play.history().len(), 2);
@@ -213,7 +279,10 @@ fn a_stale_route(rt: HostRuntime) -> Result<(), Fail> {
 fn eight_refused_attempts(rt: HostRuntime) -> Result<(), Fail> {
     let mut play = Play::new(&rt, rt.alloc(), 2)?;
     let mut from = owner(&rt, &mut play);
-    assert_eq!(rt; play.start(&rt, 1, None, GET), Outcome::Numbered { number: 1 });
+    assert_eq!(rt;
+        play.start(&rt, 1, None, GET),
+        Outcome::Numbered { number: 1 }
+    );
     for refused in 1..=8 {
         assert_eq!(rt; play.load(&rt, 1), Outcome::Acted);
         moves(&rt, &mut play, from, 3 - from);
@@ -232,9 +301,22 @@ fn eight_refused_attempts(rt: HostRuntime) -> Result<(), Fail> {
     }
     assert_eq!(rt; play.load(&rt, 1), Outcome::Nothing);
     assert_eq!(rt; play.history().len(), 0);
-    assert_eq!(rt; play.start(&rt, 1, None, GET), Outcome::Numbered { number: 2 });
+    assert_eq!(rt;
+        play.start(&rt, 1, None, GET),
+        Outcome::Numbered { number: 2 }
+    );
     let refused = play.step(&rt, 3 - from);
-    assert!(rt; matches!(refused, Outcome::Answered { session: 1, number: 2, given: false, .. }));
+    assert!(rt;
+        matches!(
+            refused,
+            Outcome::Answered {
+                session: 1,
+                number: 2,
+                given: false,
+                ..
+            }
+        )
+    );
     assert_eq!(rt; play.load(&rt, 1), Outcome::Acted);
     assert_eq!(rt; run(&rt, &mut play, from), made(1, 2, Way::Index));
     assert_eq!(rt; last(&rt, &play), (0, 1, 1));
@@ -247,11 +329,22 @@ fn tasks_and_calls(rt: HostRuntime) -> Result<(), Fail> {
     let mut play = Play::new(&rt, rt.alloc(), 1)?;
     let trimmed = |mark| Outcome::Tended(TaskAnswer::Trimmed { mark });
     first_put(&rt, rt.alloc(), &mut play, 1, 1)?;
-    assert_eq!(rt; play.start(&rt, 1, None, GET), Outcome::Numbered { number: 2 });
+    assert_eq!(rt;
+        play.start(&rt, 1, None, GET),
+        Outcome::Numbered { number: 2 }
+    );
     assert_eq!(rt; play.queue(&rt, 1, Task::Trim), Outcome::Acted);
-    assert_eq!(rt; play.queue(&rt, 1, Task::Release { slot: 3 }), Outcome::Acted);
+    assert_eq!(rt;
+        play.queue(&rt, 1, Task::Release { slot: 3 }),
+        Outcome::Acted
+    );
     assert_eq!(rt; play.step(&rt, 1), trimmed(0));
-    assert!(rt; matches!(play.step(&rt, 1), Outcome::Tended(TaskAnswer::NotLeaving { .. })));
+    assert!(rt;
+        matches!(
+            play.step(&rt, 1),
+            Outcome::Tended(TaskAnswer::NotLeaving { .. })
+        )
+    );
     assert_eq!(rt; play.step(&rt, 1), Outcome::Acted);
     assert_eq!(rt; play.queue(&rt, 1, Task::Trim), Outcome::Acted);
     assert_eq!(rt; run(&rt, &mut play, 1), made(1, 2, Way::Pending));
@@ -265,7 +358,10 @@ fn tasks_and_calls(rt: HostRuntime) -> Result<(), Fail> {
 fn refusals(rt: HostRuntime) -> Result<(), Fail> {
     let mut play = Play::new(&rt, rt.alloc(), 1)?;
     assert_eq!(rt; play.start(&rt, 1, Some(2), GET), Outcome::NoLane);
-    assert_eq!(rt; play.start(&rt, 1, None, GET), Outcome::Numbered { number: 1 });
+    assert_eq!(rt;
+        play.start(&rt, 1, None, GET),
+        Outcome::Numbered { number: 1 }
+    );
     assert_eq!(rt; play.start(&rt, 1, None, GET), Outcome::Busy);
     assert_eq!(rt; play.start(&rt, 1, Some(2), GET), Outcome::NoLane);
     assert_eq!(rt; play.step(&rt, 2), Outcome::NoLane);
@@ -273,11 +369,20 @@ fn refusals(rt: HostRuntime) -> Result<(), Fail> {
     assert_eq!(rt; play.flow(&rt, 2, 0), Outcome::NoLane);
     assert_eq!(rt; play.merge(&rt, 2), Outcome::NoLane);
     assert_eq!(rt; play.queue(&rt, 2, Task::Trim), Outcome::NoLane);
-    assert_eq!(rt; play.give(&rt, Order::Move { slot: 3, to: 2 }), Outcome::NoLane);
+    assert_eq!(rt;
+        play.give(&rt, Order::Move { slot: 3, to: 2 }),
+        Outcome::NoLane
+    );
     assert_eq!(rt; play.give(&rt, Order::Look { slot: 3 }), Outcome::Acted);
-    assert_eq!(rt; play.give(&rt, Order::Look { slot: 3 }), Outcome::MonitorBusy);
+    assert_eq!(rt;
+        play.give(&rt, Order::Look { slot: 3 }),
+        Outcome::MonitorBusy
+    );
     assert_eq!(rt; play.give(&rt, Order::Fence { lane: 2 }), Outcome::NoLane);
-    assert_eq!(rt; play.give(&rt, Order::Takeover { lane: 2 }), Outcome::NoLane);
+    assert_eq!(rt;
+        play.give(&rt, Order::Takeover { lane: 2 }),
+        Outcome::NoLane
+    );
     let looked = MonitorAnswer::Looked {
         deed: 0x4000008080000000,
     };
@@ -287,7 +392,10 @@ fn refusals(rt: HostRuntime) -> Result<(), Fail> {
     assert_eq!(rt; play.live(), [1, 2].as_slice());
     assert_eq!(rt; play.load(&rt, 1), Outcome::Acted);
     assert_eq!(rt; run(&rt, &mut play, 1), made(1, 1, Way::Index));
-    assert_eq!(rt; play.start(&rt, 1, Some(2), GET), Outcome::Numbered { number: 2 });
+    assert_eq!(rt;
+        play.start(&rt, 1, Some(2), GET),
+        Outcome::Numbered { number: 2 }
+    );
     Ok(())
 }
 
@@ -306,14 +414,23 @@ fn what_a_session_was_told(rt: HostRuntime) -> Result<(), Fail> {
     let mut play = Play::new(&rt, rt.alloc(), 1)?;
     first_put(&rt, rt.alloc(), &mut play, 1, 1)?;
     let call = put(rt.alloc(), b'b')?;
-    assert_eq!(rt; play.start(&rt, 1, None, call), Outcome::Numbered { number: 2 });
+    assert_eq!(rt;
+        play.start(&rt, 1, None, call),
+        Outcome::Numbered { number: 2 }
+    );
     assert_eq!(rt; run(&rt, &mut play, 1), made(1, 2, Way::Pending));
     assert_eq!(rt; last(&rt, &play), (2, 0, 1));
-    assert_eq!(rt; play.start(&rt, 1, None, GET), Outcome::Numbered { number: 3 });
+    assert_eq!(rt;
+        play.start(&rt, 1, None, GET),
+        Outcome::Numbered { number: 3 }
+    );
     assert_eq!(rt; run(&rt, &mut play, 1), made(1, 3, Way::Pending));
     assert_eq!(rt; last(&rt, &play), (2, 1, 1));
     assert_eq!(rt; play.tell(&rt, 1, 2), Outcome::Acted);
-    assert_eq!(rt; play.start(&rt, 2, None, GET), Outcome::Numbered { number: 1 });
+    assert_eq!(rt;
+        play.start(&rt, 2, None, GET),
+        Outcome::Numbered { number: 1 }
+    );
     assert_eq!(rt; play.load(&rt, 2), Outcome::Acted);
     assert_eq!(rt; run(&rt, &mut play, 1), made(2, 1, Way::Pending));
     assert_eq!(rt; last(&rt, &play), (2, 2, 2));
@@ -332,9 +449,15 @@ fn a_fenced_lane(rt: HostRuntime) -> Result<(), Fail> {
     };
     assert_eq!(rt; play.monitor(&rt), Outcome::Ordered(barred));
     assert_eq!(rt; play.live().len(), 0);
-    assert_eq!(rt; play.give(&rt, Order::Move { slot: 3, to: 1 }), Outcome::NoLane);
+    assert_eq!(rt;
+        play.give(&rt, Order::Move { slot: 3, to: 1 }),
+        Outcome::NoLane
+    );
     let call = put(rt.alloc(), b'b')?;
-    assert_eq!(rt; play.start(&rt, 1, None, call), Outcome::Numbered { number: 2 });
+    assert_eq!(rt;
+        play.start(&rt, 1, None, call),
+        Outcome::Numbered { number: 2 }
+    );
     for refused in 1..=8 {
         let outcome = Outcome::Answered {
             session: 1,
@@ -345,7 +468,11 @@ fn a_fenced_lane(rt: HostRuntime) -> Result<(), Fail> {
             given: refused == 8,
         };
         assert_eq!(rt; run(&rt, &mut play, 1), outcome);
-        let loaded = if refused == 8 { Outcome::Nothing } else { Outcome::Acted };
+        let loaded = if refused == 8 {
+            Outcome::Nothing
+        } else {
+            Outcome::Acted
+        };
         assert_eq!(rt; play.load(&rt, 1), loaded);
     }
     assert_eq!(rt; play.queue(&rt, 1, Task::Trim), Outcome::Acted);
@@ -365,13 +492,19 @@ fn all_is_merged(rt: HostRuntime) -> Result<(), Fail> {
     assert_eq!(rt; play.ended(1), (0, 0));
     first_put(&rt, rt.alloc(), &mut play, 1, 1)?;
     let call = put(rt.alloc(), b'b')?;
-    assert_eq!(rt; play.start(&rt, 1, None, call), Outcome::Numbered { number: 2 });
+    assert_eq!(rt;
+        play.start(&rt, 1, None, call),
+        Outcome::Numbered { number: 2 }
+    );
     assert_eq!(rt; run(&rt, &mut play, 1), made(1, 2, Way::Pending));
     for _ in 0..7 {
         assert_eq!(rt; play.merge(&rt, 1), Outcome::Acted);
     }
     let call = put(rt.alloc(), b'c')?;
-    assert_eq!(rt; play.start(&rt, 1, None, call), Outcome::Numbered { number: 3 });
+    assert_eq!(rt;
+        play.start(&rt, 1, None, call),
+        Outcome::Numbered { number: 3 }
+    );
     assert_eq!(rt; play.step(&rt, 1), Outcome::Acted);
     play.finish(&rt);
     assert_eq!(rt; play.ended(1), (0x0000000200000006, 6));

@@ -109,7 +109,13 @@ impl Play {
     }
 
     /// A session starts a call.
-    pub fn start(&mut self, rt: &impl Abort, session: u32, lane: Option<u8>, call: Call) -> Outcome {
+    pub fn start(
+        &mut self,
+        rt: &impl Abort,
+        session: u32,
+        lane: Option<u8>,
+        call: Call,
+    ) -> Outcome {
         assert!(rt; is_session(session));
         assert!(rt; is_call(&call));
         assert!(rt; self.world.cluster().session(session).again(0).number < u32::MAX);
