@@ -4,6 +4,7 @@ pub mod Starts
 pub mod Steps
 pub mod Orders
 pub mod Does
+pub mod Refusals
 pub mod Sound
 pub mod Runs
 pub mod Told

@@ -1,6 +1,6 @@
 //! What is so of worlds, as functions without work: what each says is its contract.
 
-ghost use Rattle.std.specs.Prelude.{◌≡◌, ◌++◌, ◌+◌, ◌⊎◌, ℕ, Bool, true, false, List, Option, Contains, length};
+ghost use Rattle.std.specs.Prelude.{◌≡◌, ◌++◌, ◌+◌, ◌⊎◌, ℕ, Bool, true, false, List, Option, Some, Contains, length};
 ghost use Rattle.std.specs.List.{range_with_len};
 ghost use Rattle.std.specs.List.Sorted.{IsStrictlyIncreasing};
 ghost use Rattle.dn_hist.specs.Calls.{Bytes};
@@ -18,11 +18,13 @@ ghost use Rattle.dn_waiting.specs.State.{call_of};
 ghost use Rattle.dn_outcomes.specs.Accounts.{open_in, asked_in, Ended, ended_in, numbers_asked, numbers_ended, asked_for, HasReceipt};
 ghost use Rattle.dn_outcomes.specs.Does.{does};
 ghost use Rattle.dn_outcomes.specs.Effects.{Effect};
+ghost use Rattle.dn_outcomes.specs.Refusals.{refused_by, refusal};
 ghost use Rattle.dn_outcomes.specs.Runs.{after, IsRun, told_in, calls_of};
 ghost use Rattle.dn_outcomes.specs.Sound.{IsWorld, MayHappen};
 ghost use Rattle.dn_outcomes.specs.State.{World, opened};
 ghost use Rattle.dn_outcomes.specs.Told.{Stands, starts, Starts, is_end, GoesOn, Names, IsNoOwner};
 ghost use Rattle.dn_outcomes.specs.declared.outcomes.CallAnswer.TheVariants.{NotOwner};
+ghost use Rattle.dn_outcomes.specs.declared.outcomes.Outcome.{Outcome};
 ghost use Rattle.dn_outcomes.specs.declared.outcomes.Outcome.TheVariants.{Answered};
 ghost use Rattle.dn_outcomes.specs.declared.events.Event.TheVariants as event;
 ghost use Rattle.dn_outcomes.specs.declared.events.Event.{Event};
@@ -113,4 +115,14 @@ pub fn owners()
     ensures { (w : World) (n : ℕ) (heirs : List ℕ) (s number look : ℕ) (cell : Option ℕ)
         (given : Bool) → IsWorld w → (does w (event.Step n) heirs).outcome
         ≡ Answered s number (NotOwner look cell) given → IsNoOwner w n s look }
+{}
+
+/// An event is refused exactly where there is a cause for that, and by the first one that there is: a lane that it names
+/// wasn't made, or the target of a move isn't live; then, the session has a call, and it is closed; or an order is under
+/// way; or 63 lanes were made. Whatever is refused changes nothing, and so takes no number.
+pub fn refusals()
+    ensures causes { (w : World) (e : Event) (heirs : List ℕ)
+        → refused_by (does w e heirs).outcome ≡ refusal w e }
+    ensures same { (w : World) (e : Event) (heirs : List ℕ) (o : Outcome) → refusal w e ≡ Some o
+        → (does w e heirs).world ≡ w }
 {}

@@ -1,7 +1,8 @@
 //! What a world of a cluster is given, event by event, and what comes of each: definitions, and laws of them.
 //!
-//! A world is a machine, the calls and tasks that wait, and the lanes that are live. One function says of every event what
-//! the world is after it and what its outcome is; `dn_world2` carries it out.
+//! A world is a machine over the words of a pool, the number of lanes that were made, the calls and tasks that wait, and the
+//! lanes that are live. `does`, in `specs/Does.antt`, is one function that says of every event what the world is after it and
+//! what its outcome is; `dn_world2` carries it out. [`laws`] has what is so of all worlds.
 #![tactic(auto)]
 
 mod events;

@@ -21,7 +21,9 @@ use std::marker::Model;
 /// A receipt that stands, and whether its session was answered it.
 #[derive(Drop)]
 pub struct Standing {
+    /// The call, its reply and its place in the history.
     pub receipt: Receipt,
+    /// Whether an outcome told that the call was made.
     pub answered: bool,
 }
 
@@ -45,11 +47,14 @@ impl Model for World {
 }
 
 impl World {
-    /// Does one event. What it is by, and what comes of it, is `does` of `dn_outcomes`, a function of the world, the words of
-    /// the pool and the event; the world is sound after it. Want of memory changes nothing.
+    /// Does one event. What comes of it is `does` of `dn_outcomes`, a function of the world, the words of the pool and the
+    /// event, and besides, for a takeover, of the live lanes' ring; the world is sound after it. The words are those that
+    /// the world's events left. [`Event`] has the conditions of each event and its refusals, and [`Outcome`] what they mean.
     ///
-    /// `Fault` comes exactly where the access to the pool failed; then the action was done or not done, and nothing is said of
-    /// the world after it.
+    /// A receipt comes to stand, as the last one and answered, exactly where the outcome is `Answered` by `Made`.
+    ///
+    /// Want of memory changes nothing, neither the world nor a word. `Fault` comes exactly where the access to the pool
+    /// failed; then the action was done or not done, and nothing is said of the world after it.
     pub fn event<M: Memory>(&mut self, mem: &mut M, event: Event) -> Result<Outcome, OutOfMemory>
         requires can { CanBeSound (M.words mem.old) self.old }
         requires event { MayBeGiven self.old event }
