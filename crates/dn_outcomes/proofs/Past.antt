@@ -167,3 +167,15 @@ given_up w (y ∷ ys) s x h run i there given =
 
 pub no_receipt : (w : World) (es : List (Event × List ℕ)) (s : ℕ) (x : Ended) → IsWorld w → IsRun w es → IsSession s → Contains (ended_in s w es) x → x.made ≡ false → HasReceipt (after w es) s x.number → ⊥
 no_receipt w es s x h run i there given r = (given_up w es s x h run i there given).none r.standing r.stands r.session r.its
+
+-- ---- a call that still is under way or waits
+pub stands_nowhere : (w : World) (s : ℕ) (x : Asked) → IsWorld w → IsSession s → Contains (open_in w s) x → HasReceipt w s x.number → ⊥
+stands_nowhere w s x h i there r = by_call (call_of w.waiting s) refl there where
+  by_call : (o : Option OpenCall) → call_of w.waiting s ≡ o → Contains (asked_of o) x → ⊥
+  by_call None e has = no_element x has
+  by_call (Some c) e has =
+      let is : IsCallOf w.machine.callers s c = h.calls.calls s c i e in
+      elim (of_first (record { number = c.number; call = c.call }) [] x has) [
+        | inl same ↦ omega (arith, is.unmade r.standing.receipt (has_receipt w.machine.callers.receipts r.standing r.stands) r.session, r.its, ap (λ (z : Asked). z.number) same)
+        | inr none ↦ no_element x none
+      ]

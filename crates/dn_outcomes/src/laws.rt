@@ -15,7 +15,7 @@ ghost use Rattle.dn_machine.specs.Histories.{IsHistory};
 ghost use Rattle.dn_machine.specs.Sound.{IsSound};
 ghost use Rattle.dn_machine.specs.State.{resting};
 ghost use Rattle.dn_waiting.specs.State.{call_of};
-ghost use Rattle.dn_outcomes.specs.Accounts.{open_in, asked_in, Ended, ended_in, numbers_asked, numbers_ended, asked_for, HasReceipt};
+ghost use Rattle.dn_outcomes.specs.Accounts.{Asked, open_in, asked_in, Ended, ended_in, numbers_asked, numbers_ended, asked_for, HasReceipt};
 ghost use Rattle.dn_outcomes.specs.Does.{does};
 ghost use Rattle.dn_outcomes.specs.Effects.{Effect};
 ghost use Rattle.dn_outcomes.specs.Refusals.{refused_by, refusal};
@@ -77,8 +77,8 @@ pub fn outcomes()
 
 /// Over a run no call of a session is lost, and none ends twice: what it had and has asked is, in order, what has ended and
 /// what it has at last. The numbers that it is told follow its last one, one after the other; so those that end rise. A call
-/// that is told as made has a receipt then and later, and one that is given up never has one. Each receipt that comes to
-/// stand has the call that its session asked with its number.
+/// that is told as made has a receipt then and later, one that is given up never has one, and one that still waits for its
+/// answer has none. Each receipt that comes to stand has the call that its session asked with its number.
 pub fn accounts()
     ensures all { (w : World) (es : List (Event × List ℕ)) (s : ℕ) → IsWorld w → IsRun w es
         → numbers_asked (open_in w s ++ asked_in s w es)
@@ -94,6 +94,8 @@ pub fn accounts()
     ensures given_up { (w : World) (es : List (Event × List ℕ)) (s : ℕ) (x : Ended) → IsWorld w
         → IsRun w es → IsSession s → Contains (ended_in s w es) x → x.made ≡ false
         → HasReceipt (after w es) s x.number → ⊥ }
+    ensures unanswered { (w : World) (s : ℕ) (x : Asked) → IsWorld w → IsSession s
+        → Contains (open_in w s) x → HasReceipt w s x.number → ⊥ }
     ensures asked { (w : World) (es : List (Event × List ℕ)) (x : Standing) → IsWorld w
         → IsRun w es → Contains (after w es).machine.callers.receipts x
         → Contains w.machine.callers.receipts x

@@ -109,6 +109,7 @@ impl Crew {
             (M.faults mem.new)) }
         ensures same { OnErr result (self.new ≡ self.old) }
         ensures words { OnErr result (M.words mem.new ≡ M.words mem.old) }
+        ensures faults { OnErr result (M.faults mem.new ≡ M.faults mem.old) }
     {
         let outcome = match event {
             Event::Start {
@@ -274,6 +275,7 @@ impl Crew {
             (M.faults mem.new)) }
         ensures same { OnErr result (self.new ≡ self.old) }
         ensures words { OnErr result (M.words mem.new ≡ M.words mem.old) }
+        ensures faults { OnErr result (M.faults mem.new ≡ M.faults mem.old) }
     {
         if !self.is_made(lane) {
             return Ok(bare(Outcome::NoLane));
@@ -300,6 +302,7 @@ impl Crew {
             (M.faults mem.new)) }
         ensures same { OnErr result (self.new ≡ self.old) }
         ensures words { OnErr result (M.words mem.new ≡ M.words mem.old) }
+        ensures faults { OnErr result (M.faults mem.new ≡ M.faults mem.old) }
     {
         match self.cluster.give_task(lane, task) {
             Ok(()) => {
@@ -328,6 +331,7 @@ impl Crew {
             (M.faults mem.new)) }
         ensures same { OnErr result (self.new ≡ self.old) }
         ensures words { OnErr result (M.words mem.new ≡ M.words mem.old) }
+        ensures faults { OnErr result (M.faults mem.new ≡ M.faults mem.old) }
     {
         match self.begin(lane, view) {
             Ok(()) => {

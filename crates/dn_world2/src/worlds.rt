@@ -53,7 +53,7 @@ impl World {
     ///
     /// A receipt comes to stand, as the last one and answered, exactly where the outcome is `Answered` by `Made`.
     ///
-    /// Want of memory changes nothing, neither the world nor a word. `Fault` comes exactly where the access to the pool
+    /// Want of memory changes nothing: no access was tried. `Fault` comes exactly where the access to the pool
     /// failed; then the action was done or not done, and nothing is said of the world after it.
     pub fn event<M: Memory>(&mut self, mem: &mut M, event: Event) -> Result<Outcome, OutOfMemory>
         requires can { CanBeSound (M.words mem.old) self.old }
@@ -64,6 +64,7 @@ impl World {
             (M.faults mem.new)) }
         ensures same { OnErr result (self.new ≡ self.old) }
         ensures words { OnErr result (M.words mem.new ≡ M.words mem.old) }
+        ensures faults { OnErr result (M.faults mem.new ≡ M.faults mem.old) }
         ensures ended { self.new.ended ≡ self.old.ended }
     {
         self.standing.reserve(1)?;

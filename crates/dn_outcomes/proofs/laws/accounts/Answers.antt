@@ -2,7 +2,7 @@ use Rattle.dn_outcomes.proofs.Accounts.{all_accounted}
 use Rattle.dn_outcomes.proofs.Counted.{numbers_counted, ends_rise}
 use Rattle.dn_outcomes.proofs.Joined.{joined}
 use Rattle.dn_outcomes.proofs.Made.{has_receipt_made}
-use Rattle.dn_outcomes.proofs.Past.{no_receipt}
+use Rattle.dn_outcomes.proofs.Past.{no_receipt, stands_nowhere}
 use Rattle.dn_outcomes.proofs.laws.accounts.Goals as goal
 
 pub returns-clause-all : goal.returns-clause-all
@@ -22,3 +22,6 @@ returns-clause-given_up c = no_receipt
 
 pub returns-clause-asked : goal.returns-clause-asked
 returns-clause-asked c = joined
+
+pub returns-clause-unanswered : goal.returns-clause-unanswered
+returns-clause-unanswered c = stands_nowhere
