@@ -8,10 +8,11 @@
 #![tactic(auto)]
 
 mod loads;
+mod players;
 mod plays;
 mod tallies;
 
-use crate::plays::play;
+use crate::players::play;
 use anyhow::bail;
 use std::env;
 
