@@ -1,6 +1,6 @@
 //! A world with a pool in the process, of which no access fails.
 
-ghost use Rattle.std.specs.Prelude.{◌≡◌, ◌<◌, ◌^◌, ◌-◌, IsTrue, IfOk};
+ghost use Rattle.std.specs.Prelude.{IsTrue};
 ghost use Rattle.dn_callers.specs.Sessions.{IsSession};
 ghost use Rattle.dn_world2.specs.Happens.{HasNumber, MayBeGiven};
 
