@@ -12,7 +12,7 @@ use std::alloc::Global;
 use std::marker::Model;
 
 /// How many segments the pool has.
-const SEGMENTS: u32 = 1_024;
+pub const SEGMENTS: u32 = 1_024;
 
 /// How many nodes there are.
 pub const LANES: u8 = 8;

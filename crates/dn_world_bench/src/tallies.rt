@@ -37,6 +37,19 @@ impl Tally {
         self.sum = self.sum.wrapping_mul(31).wrapping_add(number);
     }
 
+    /// Counts an action.
+    pub fn count(&mut self) {
+        self.actions = self.actions.saturating_add(1);
+    }
+
+    /// Counts a call that was made.
+    pub fn pass(&mut self, way: Way) {
+        self.calls = self.calls.saturating_add(1);
+        if way == Way::Pending {
+            self.pending = self.pending.saturating_add(1);
+        }
+    }
+
     /// Counts what came of an event of an actor.
     pub fn act(&mut self, outcome: Outcome) {
         match outcome {
@@ -44,16 +57,11 @@ impl Tally {
             Outcome::Answered {
                 answer: CallAnswer::Made { way },
                 ..
-            } => {
-                self.calls = self.calls.saturating_add(1);
-                if way == Way::Pending {
-                    self.pending = self.pending.saturating_add(1);
-                }
-            }
+            } => self.pass(way),
             Outcome::Answered { .. } => self.refused = self.refused.saturating_add(1),
             _ => {}
         }
-        self.actions = self.actions.saturating_add(1);
+        self.count();
     }
 
     /// Adds what a call was answered.
