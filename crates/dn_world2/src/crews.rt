@@ -103,8 +103,8 @@ impl Crew {
     pub fn event<M: Memory>(&mut self, mem: &mut M, event: Event) -> Result<Came, OutOfMemory>
         requires can { CanBeWorld (M.words mem.old) self.old }
         requires event { MayBeGivenTo self.old event }
-        ensures comes { IfOk result (λ came. OnDone came.outcome (HappensTo (M.words mem.old) self.old
-            (M.words mem.new) self.new came event)) }
+        ensures comes { IfOk result (λ came. OnDone came.outcome (HappensTo (M.words mem.old)
+            self.old (M.words mem.new) self.new came event)) }
         ensures count { IfOk result (λ came. CountsFault came.outcome (M.faults mem.old)
             (M.faults mem.new)) }
         ensures same { OnErr result (self.new ≡ self.old) }
@@ -582,8 +582,9 @@ impl Crew {
     /// A task arrives at a lane.
     pub fn queue(&mut self, lane: u8, task: Task) -> Result<Outcome, OutOfMemory>
         requires can { Can self.old }
-        ensures came { (words : List ℕ) → IfOk result (λ outcome. Moves words self.old words self.new
-            (bare outcome) (λ w. on_lane w lane (queues w lane task (w.machine.lanes lane)))) }
+        ensures came { (words : List ℕ) → IfOk result (λ outcome. Moves words self.old words
+            self.new (bare outcome) (λ w. on_lane w lane
+            (queues w lane task (w.machine.lanes lane)))) }
         ensures done { IfOk result (λ outcome. has_failed outcome ≡ false) }
         ensures same { OnErr result (self.new ≡ self.old) }
     {
@@ -599,8 +600,8 @@ impl Crew {
 
     /// A lane is added.
     pub fn add(&mut self) -> Result<Outcome, OutOfMemory>
-        ensures came { (words : List ℕ) → IfOk result (λ outcome. Moves words self.old words self.new
-            (bare outcome) adds) }
+        ensures came { (words : List ℕ) → IfOk result (λ outcome. Moves words self.old words
+            self.new (bare outcome) adds) }
         ensures done { IfOk result (λ outcome. has_failed outcome ≡ false) }
         ensures same { OnErr result (self.new ≡ self.old) }
     {
