@@ -1,8 +1,8 @@
 //! Measures what an action costs in a world of 8 nodes, of which 50 sessions make calls in turn.
 //!
 //! With the word `calls` 100,000 calls are made, about half of them puts of 8 bytes, over 10,000 keys; with `sample` 10,000.
-//! Each turn every session without a call starts one, every node makes an action, and in every fourth turn so does every
-//! merger. All is carried out event by event over a memory in the process. With the word `alone` the same 100,000 calls are
+//! A session starts its next call once it is answered. Each turn every node makes an action, and in every fourth turn so does
+//! every merger. All is carried out event by event over a memory in the process. With the word `alone` the same 100,000 calls are
 //! made by 8 nodes and their mergers without a world, one call after the other, and with `sample` 10,000 of them too.
 //!
 //! What is printed are counts and sums of what was done and answered, so that no work can be left out.
