@@ -7,6 +7,7 @@ pub mod Does
 pub mod Refusals
 pub mod Sound
 pub mod Runs
+pub mod Every
 pub mod Told
 pub mod Effects
 pub mod Accounts

@@ -18,9 +18,10 @@ ghost use Rattle.dn_waiting.specs.State.{call_of};
 ghost use Rattle.dn_outcomes.specs.Accounts.{Asked, open_in, asked_in, Ended, ended_in, numbers_asked, numbers_ended, asked_for, HasReceipt};
 ghost use Rattle.dn_outcomes.specs.Does.{does};
 ghost use Rattle.dn_outcomes.specs.Effects.{Effect};
+ghost use Rattle.dn_outcomes.specs.Every.{AtEvents, OverRuns};
 ghost use Rattle.dn_outcomes.specs.Refusals.{refused_by, refusal};
-ghost use Rattle.dn_outcomes.specs.Runs.{after, IsRun, told_in, calls_of};
-ghost use Rattle.dn_outcomes.specs.Sound.{IsWorld, MayHappen};
+ghost use Rattle.dn_outcomes.specs.Runs.{after, told_in, calls_of};
+ghost use Rattle.dn_outcomes.specs.Sound.{IsWorld};
 ghost use Rattle.dn_outcomes.specs.State.{World, opened};
 ghost use Rattle.dn_outcomes.specs.Told.{Stands, starts, Starts, is_end, GoesOn, Names, IsNoOwner};
 ghost use Rattle.dn_outcomes.specs.declared.outcomes.CallAnswer.TheVariants.{NotOwner};
@@ -34,10 +35,8 @@ ghost use Rattle.dn_outcomes.specs.declared.events.Event.{Event};
 pub fn worlds()
     ensures opening { (segments : ℕ) (words : List ℕ) → IsSound segments (resting words)
         → IsWorld (opened segments words) }
-    ensures kept { (w : World) (e : Event) (heirs : List ℕ) → IsWorld w → MayHappen w e heirs
-        → IsWorld (does w e heirs).world }
-    ensures runs { (w : World) (es : List (Event × List ℕ)) → IsWorld w → IsRun w es
-        → IsWorld (after w es) }
+    ensures kept { AtEvents (λ w e heirs. IsWorld (does w e heirs).world) }
+    ensures runs { OverRuns (λ w es. IsWorld (after w es)) }
 {}
 
 /// Whatever has happened in a world, the receipts that stand, in order of position, are a history in which each session's
@@ -60,19 +59,17 @@ pub fn histories()
 /// number that is told is the call's. So over a run the receipts that come to stand are those that are told, in the same
 /// order.
 pub fn outcomes()
-    ensures receipts { (w : World) (e : Event) (heirs : List ℕ) → IsWorld w → MayHappen w e heirs
-        → Stands w (does w e heirs).world (does w e heirs).outcome }
-    ensures calls { (w : World) (e : Event) (heirs : List ℕ) (s : ℕ) → IsWorld w
-        → MayHappen w e heirs → starts e s ≡ false → GoesOn (is_end (does w e heirs).outcome s)
-        (call_of w.waiting s) (call_of (does w e heirs).world.waiting s) }
+    ensures receipts { AtEvents (λ w e heirs. Stands w (does w e heirs).world
+        (does w e heirs).outcome) }
+    ensures calls { AtEvents (λ w e heirs. (s : ℕ) → starts e s ≡ false
+        → GoesOn (is_end (does w e heirs).outcome s) (call_of w.waiting s)
+        (call_of (does w e heirs).world.waiting s)) }
     ensures begins { (w : World) (s : ℕ) (lane : Option ℕ) (call : Call) (heirs : List ℕ)
         → IsWorld w → IsSession s → Starts w (does w (event.Start s lane call) heirs).world s call
         (does w (event.Start s lane call) heirs).outcome }
-    ensures numbers { (w : World) (e : Event) (heirs : List ℕ) → IsWorld w → MayHappen w e heirs
-        → Names w.waiting (does w e heirs).outcome }
-    ensures runs { (w : World) (es : List (Event × List ℕ)) → IsWorld w → IsRun w es
-        → calls_of (after w es).machine.callers.receipts
-        ≡ calls_of w.machine.callers.receipts ++ told_in w es }
+    ensures numbers { AtEvents (λ w e heirs. Names w.waiting (does w e heirs).outcome) }
+    ensures runs { OverRuns (λ w es. calls_of (after w es).machine.callers.receipts
+        ≡ calls_of w.machine.callers.receipts ++ told_in w es) }
 {}
 
 /// Over a run no call of a session is lost, and none ends twice: what it had and has asked is, in order, what has ended and
@@ -80,27 +77,25 @@ pub fn outcomes()
 /// that is told as made has a receipt then and later, one that is given up never has one, and one that still waits for its
 /// answer has none. Each receipt that comes to stand has the call that its session asked with its number.
 pub fn accounts()
-    ensures all { (w : World) (es : List (Event × List ℕ)) (s : ℕ) → IsWorld w → IsRun w es
-        → numbers_asked (open_in w s ++ asked_in s w es)
-        ≡ numbers_ended (ended_in s w es) ++ numbers_asked (open_in (after w es) s) }
-    ensures numbers { (w : World) (es : List (Event × List ℕ)) (s : ℕ) → IsWorld w → IsRun w es
-        → numbers_asked (asked_in s w es)
-        ≡ range_with_len ((w.machine.callers.sessions s).number + 1) (length (asked_in s w es)) }
-    ensures once { (w : World) (es : List (Event × List ℕ)) (s : ℕ) → IsWorld w → IsRun w es
-        → IsSession s → IsStrictlyIncreasing (numbers_ended (ended_in s w es)) }
-    ensures made { (w : World) (es : List (Event × List ℕ)) (s : ℕ) (x : Ended) → IsWorld w
-        → IsRun w es → Contains (ended_in s w es) x → x.made ≡ true
-        → HasReceipt (after w es) s x.number }
-    ensures given_up { (w : World) (es : List (Event × List ℕ)) (s : ℕ) (x : Ended) → IsWorld w
-        → IsRun w es → IsSession s → Contains (ended_in s w es) x → x.made ≡ false
-        → HasReceipt (after w es) s x.number → ⊥ }
+    ensures all { OverRuns (λ w es. (s : ℕ) → numbers_asked (open_in w s ++ asked_in s w es)
+        ≡ numbers_ended (ended_in s w es) ++ numbers_asked (open_in (after w es) s)) }
+    ensures numbers { OverRuns (λ w es. (s : ℕ) → numbers_asked (asked_in s w es)
+        ≡ range_with_len ((w.machine.callers.sessions s).number + 1)
+        (length (asked_in s w es))) }
+    ensures once { OverRuns (λ w es. (s : ℕ) → IsSession s
+        → IsStrictlyIncreasing (numbers_ended (ended_in s w es))) }
+    ensures made { OverRuns (λ w es. (s : ℕ) (x : Ended) → Contains (ended_in s w es) x
+        → x.made ≡ true → HasReceipt (after w es) s x.number) }
+    ensures given_up { OverRuns (λ w es. (s : ℕ) (x : Ended) → IsSession s
+        → Contains (ended_in s w es) x → x.made ≡ false
+        → HasReceipt (after w es) s x.number → ⊥) }
     ensures unanswered { (w : World) (s : ℕ) (x : Asked) → IsWorld w → IsSession s
         → Contains (open_in w s) x → HasReceipt w s x.number → ⊥ }
-    ensures asked { (w : World) (es : List (Event × List ℕ)) (x : Standing) → IsWorld w
-        → IsRun w es → Contains (after w es).machine.callers.receipts x
+    ensures asked { OverRuns (λ w es. (x : Standing)
+        → Contains (after w es).machine.callers.receipts x
         → Contains w.machine.callers.receipts x
         ⊎ Contains (open_in w x.receipt.position.session
-        ++ asked_in x.receipt.position.session w es) (asked_for x.receipt) }
+        ++ asked_in x.receipt.position.session w es) (asked_for x.receipt)) }
 {}
 
 /// A call is made at the event that tells it as made: it is answered what the plain map answers that the words hold before,
@@ -125,6 +120,6 @@ pub fn owners()
 pub fn refusals()
     ensures causes { (w : World) (e : Event) (heirs : List ℕ)
         → refused_by (does w e heirs).outcome ≡ refusal w e }
-    ensures same { (w : World) (e : Event) (heirs : List ℕ) (o : Outcome) → refusal w e ≡ Some o
-        → (does w e heirs).world ≡ w }
+    ensures same { (w : World) (e : Event) (heirs : List ℕ) (o : Outcome)
+        → refusal w e ≡ Some o → (does w e heirs).world ≡ w }
 {}

@@ -244,7 +244,8 @@ impl Crew {
         requires session { IsSession session }
         requires itself { (session_at self.old.cluster session).session ≡ session }
         requires loading { IsLoading (call_of self.old.waiting session) }
-        requires number { (view : View) → view.number ≡ (session_at self.old.cluster session).number
+        requires number { (view : View)
+            → view.number ≡ (session_at self.old.cluster session).number
             → Shows view (call_of self.old.waiting session) }
         ensures came { (words : List ℕ) → Moves words self.old words self.new (bare result)
             (λ w. routes w session (call_of w.waiting session)) }
@@ -368,8 +369,8 @@ impl Crew {
     fn turned(&mut self, lane: u8, turn: Turn) -> Came
         requires lane { IsLane lane }
         requires session { IsSessionOf (at_lane self.old.waiting lane).begun }
-        ensures came { (words : List ℕ) → Moves words self.old words self.new (bare result.outcome)
-            (λ w. by_turn w lane turn) }
+        ensures came { (words : List ℕ) → Moves words self.old words self.new
+            (bare result.outcome) (λ w. by_turn w lane turn) }
         ensures receipt { result.receipt ≡ receipt_by turn }
         ensures done { has_failed result.outcome ≡ false }
     {

@@ -58,8 +58,8 @@ impl World {
     pub fn event<M: Memory>(&mut self, mem: &mut M, event: Event) -> Result<Outcome, OutOfMemory>
         requires can { CanBeSound (M.words mem.old) self.old }
         requires event { MayBeGiven self.old event }
-        ensures happens { IfOk result (λ outcome. OnDone outcome (Happens (M.words mem.old) self.old
-            (M.words mem.new) self.new event outcome)) }
+        ensures happens { IfOk result (λ outcome. OnDone outcome (Happens (M.words mem.old)
+            self.old (M.words mem.new) self.new event outcome)) }
         ensures count { IfOk result (λ outcome. CountsFault outcome (M.faults mem.old)
             (M.faults mem.new)) }
         ensures same { OnErr result (self.new ≡ self.old) }
@@ -98,7 +98,8 @@ impl World {
             (length self.old.crew.cluster.nodes) (M.words mem.new) self.new.crew.cluster) }
         ensures ended { OnOk result (HaveEnded (M.words mem.new)
             (length self.old.crew.cluster.nodes) self.new.ended) }
-        ensures places { OnOk result (length self.new.ended ≡ length self.old.crew.cluster.nodes) }
+        ensures places { OnOk result (length self.new.ended
+            ≡ length self.old.crew.cluster.nodes) }
         ensures fault { IfErr result (IsFinishFault (M.words mem.old) self.old (M.words mem.new)
             self.new) }
         ensures still { OnErr result (self.new.ended ≡ self.old.ended) }

@@ -80,7 +80,8 @@ impl World {
 
     /// The calls that have no end yet, each by its session and its number, in order of session; or want of memory.
     pub fn waiting(&self, alloc: Global) -> Result<Vec<(u32, u32)>, OutOfMemory>
-        ensures { IfOk result (λ calls. calls.items ≡ waiting_from 0 self.now.crew.waiting.calls) }
+        ensures { IfOk result (λ calls. calls.items
+            ≡ waiting_from 0 self.now.crew.waiting.calls) }
     {
         self.crew.waiting(alloc)
     }

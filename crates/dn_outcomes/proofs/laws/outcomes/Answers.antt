@@ -6,7 +6,7 @@ pub returns-clause-receipts : goal.returns-clause-receipts
 returns-clause-receipts c = receipts_so
 
 pub returns-clause-calls : goal.returns-clause-calls
-returns-clause-calls c = calls_so
+returns-clause-calls c = λ w e heirs h may s other. calls_so w e heirs s h may other
 
 pub returns-clause-begins : goal.returns-clause-begins
 returns-clause-begins c = starts_so
