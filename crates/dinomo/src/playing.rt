@@ -137,7 +137,8 @@ pub fn write_out<K: Sink>(sink: &mut K, out: &[u8], status: Status) -> Status
         → Writes (K.written sink.old) (K.written sink.new) out.now }
     ensures part { result ≡ Status.WriteFault → status ≢ Status.WriteFault
         → WroteFront (K.written sink.old) (K.written sink.new) out.now }
-    ensures no_write_fault { result ≢ Status.WriteFault → K.faults sink.new ≡ K.faults sink.old }
+    ensures no_write_fault { result ≢ Status.WriteFault
+        → K.faults sink.new ≡ K.faults sink.old }
 {
     match write_all(sink, out) {
         Ok(()) => status,
@@ -167,7 +168,8 @@ fn play_script<K: Sink, M: Memory>(
         (M.words pool.new) }
     ensures write_fault { result ≡ Status.WriteFault
         → Rose (K.faults sink.old) (K.faults sink.new) }
-    ensures no_write_fault { result ≢ Status.WriteFault → K.faults sink.new ≡ K.faults sink.old }
+    ensures no_write_fault { result ≢ Status.WriteFault
+        → K.faults sink.new ≡ K.faults sink.old }
     ensures size { length (M.words pool.new) ≡ length (M.words pool.old) }
     ensures pool_fault { result ≡ Status.PoolFault → M.faults pool.old < M.faults pool.new }
     ensures no_fault { result ≢ Status.PoolFault → M.faults pool.new ≡ M.faults pool.old }
@@ -225,18 +227,18 @@ fn play_source<S: Source, K: Sink, M: Memory>(
     requires size { IsPoolSize (length (M.words pool.old)) }
     requires zeros { IsZeros (M.words pool.old) }
     ensures headline { result ≡ Status.Ok → (left : List ℕ) (script : ScriptOf)
-        → S.left source.old ≡ Some left → scripted (pool_segments (length (M.words pool.old))) left
-        ≡ Ok script
+        → S.left source.old ≡ Some left
+        → scripted (pool_segments (length (M.words pool.old))) left ≡ Ok script
         → WritesRun script.segments script.lines (M.words pool.new)
         (K.written sink.old) (K.written sink.new) }
     ensures headline_part { result ≡ Status.WriteFault → (left : List ℕ) (script : ScriptOf)
-        → S.left source.old ≡ Some left → scripted (pool_segments (length (M.words pool.old))) left
-        ≡ Ok script
+        → S.left source.old ≡ Some left
+        → scripted (pool_segments (length (M.words pool.old))) left ≡ Ok script
         → WritesPart script.segments script.lines (M.words pool.new)
         (K.written sink.old) (K.written sink.new) }
     ensures stopped { IsStop result → (left : List ℕ) (script : ScriptOf)
-        → S.left source.old ≡ Some left → scripted (pool_segments (length (M.words pool.old))) left
-        ≡ Ok script
+        → S.left source.old ≡ Some left
+        → scripted (pool_segments (length (M.words pool.old))) left ≡ Ok script
         → IsStopped script.segments script.lines (M.words pool.new) }
     ensures complete { (left : List ℕ) (script : ScriptOf) → S.left source.old ≡ Some left
         → length left ≤ 67108864 → line_count left ≤ 1000000
@@ -247,8 +249,8 @@ fn play_source<S: Source, K: Sink, M: Memory>(
         ⊎ (result ≡ Status.OutOfMemory) }
     ensures end { result ≡ Status.Ok → IsAtEnd (S.left source.new) }
     ensures bad_part { result ≡ Status.WriteFault → (left : List ℕ) (bad : BadLine)
-        → S.left source.old ≡ Some left → scripted (pool_segments (length (M.words pool.old))) left
-        ≡ Err bad
+        → S.left source.old ≡ Some left
+        → scripted (pool_segments (length (M.words pool.old))) left ≡ Err bad
         → WroteFront (K.written sink.old) (K.written sink.new)
         (bad_line_text bad.line (name_of bad.cause)) }
     ensures script { (left : List ℕ) → S.left source.old ≡ Some left
@@ -257,10 +259,12 @@ fn play_source<S: Source, K: Sink, M: Memory>(
     ensures index { result ≢ Status.IndexFull }
     ensures read_fault { result ≡ Status.ReadFault
         → Rose (S.faults source.old) (S.faults source.new) }
-    ensures no_read_fault { result ≢ Status.ReadFault → S.faults source.new ≡ S.faults source.old }
+    ensures no_read_fault { result ≢ Status.ReadFault
+        → S.faults source.new ≡ S.faults source.old }
     ensures write_fault { result ≡ Status.WriteFault
         → Rose (K.faults sink.old) (K.faults sink.new) }
-    ensures no_write_fault { result ≢ Status.WriteFault → K.faults sink.new ≡ K.faults sink.old }
+    ensures no_write_fault { result ≢ Status.WriteFault
+        → K.faults sink.new ≡ K.faults sink.old }
     ensures size { length (M.words pool.new) ≡ length (M.words pool.old) }
     ensures pool_fault { result ≡ Status.PoolFault → M.faults pool.old < M.faults pool.new }
     ensures no_fault { result ≢ Status.PoolFault → M.faults pool.new ≡ M.faults pool.old }
@@ -270,12 +274,12 @@ fn play_source<S: Source, K: Sink, M: Memory>(
     ensures untouched { LeavesPool result → M.words pool.new ≡ M.words pool.old }
     ensures unwritten { LeavesSink result → K.written sink.new ≡ K.written sink.old }
     ensures bad_line { result ≡ Status.BadScript → (left : List ℕ) (bad : BadLine)
-        → S.left source.old ≡ Some left → scripted (pool_segments (length (M.words pool.old))) left
-        ≡ Err bad
+        → S.left source.old ≡ Some left
+        → scripted (pool_segments (length (M.words pool.old))) left ≡ Err bad
         → Writes (K.written sink.old) (K.written sink.new)
         (bad_line_text bad.line (name_of bad.cause)) }
-    ensures leaves_run { result ≡ Status.Ok → LeavesRun (segments_of (length (M.words pool.old)))
-        (M.words pool.new) }
+    ensures leaves_run { result ≡ Status.Ok
+        → LeavesRun (segments_of (length (M.words pool.old))) (M.words pool.new) }
     ensures leaves_stopped { IsStop result → LeavesStopped
         (segments_of (length (M.words pool.old))) (M.words pool.new) }
 {
@@ -295,10 +299,12 @@ fn refuse<K: Sink>(alloc: Global, sink: &mut K, line: u64, cause: Cause) -> Stat
     ensures ends { (result ≡ Status.BadScript) ⊎ (result ≡ Status.WriteFault)
         ⊎ (result ≡ Status.OutOfMemory) }
     ensures cause { result ≡ Status.WriteFault → Rose (K.faults sink.old) (K.faults sink.new) }
-    ensures no_write_fault { result ≢ Status.WriteFault → K.faults sink.new ≡ K.faults sink.old }
+    ensures no_write_fault { result ≢ Status.WriteFault
+        → K.faults sink.new ≡ K.faults sink.old }
     ensures want { result ≡ Status.OutOfMemory → K.written sink.new ≡ K.written sink.old }
     ensures part { result ≡ Status.WriteFault
-        → WroteFront (K.written sink.old) (K.written sink.new) (bad_line_text line (name_of cause)) }
+        → WroteFront (K.written sink.old) (K.written sink.new)
+        (bad_line_text line (name_of cause)) }
     ensures line { result ≡ Status.BadScript
         → Writes (K.written sink.old) (K.written sink.new)
         (bad_line_text line (name_of cause)) }

@@ -12,6 +12,7 @@ pub fn still()
 
 /// Two steps of one actor are a step of it.
 pub fn chained()
-    ensures step { (who : Acting) (p q r : Pool) → IsStepBy who p q → IsStepBy who q r → IsStepBy who p r }
+    ensures step { (who : Acting) (p q r : Pool) → IsStepBy who p q → IsStepBy who q r
+        → IsStepBy who p r }
     ensures quiet { (p q r : Pool) → IsQuiet p q → IsQuiet q r → IsQuiet p r }
 {}

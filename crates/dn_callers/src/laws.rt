@@ -18,10 +18,11 @@ pub fn opening()
 /// same number, while the call isn't answered.
 pub fn numbers()
     ensures sessions { (c : Callers) (s : ℕ) → AreSessions c → AreSessions (numbered_at c s) }
-    ensures first { (c : Callers) (s key : ℕ) → AreSessions c → IsSession s → c.closed s ≡ false
+    ensures first { (c : Callers) (s key : ℕ) → AreSessions c → IsSession s
+        → c.closed s ≡ false
         → IsUnderWay (numbered_at c s) (view_of ((numbered_at c s).sessions s) key) }
-    ensures further { (c : Callers) (view : SessionView) (key : ℕ) → AreSessions c → IsUnderWay c view
-        → view.number ≡ (c.sessions view.session).number
+    ensures further { (c : Callers) (view : SessionView) (key : ℕ) → AreSessions c
+        → IsUnderWay c view → view.number ≡ (c.sessions view.session).number
         → IsUnderWay c (view_of (c.sessions view.session) key) }
     ensures calls { (c : Callers) (s : ℕ) (view : SessionView)
         → IsUnderWay c view → IsUnderWay (numbered_at c s) view }
@@ -44,7 +45,8 @@ pub fn receipts()
         → r.position.session ≢ view.session → IsUnderWay (answered_by c r) view }
     ensures unanswered { (c : Callers) (view : SessionView) (r : Receipt) → AreSessions c
         → IsUnderWay c view → IsReceiptOf view r → AreSessions (unanswered_by c r) }
-    ensures unanswered_calls { (c : Callers) (r : Receipt) (view : SessionView) → IsUnderWay c view
+    ensures unanswered_calls { (c : Callers) (r : Receipt) (view : SessionView)
+        → IsUnderWay c view
         → r.position.session ≢ view.session → IsUnderWay (unanswered_by c r) view }
 {}
 
@@ -59,8 +61,8 @@ pub fn closing()
 pub fn learning()
     ensures routes { (c : Callers) (s slot word : ℕ) → AreSessions c
         → AreSessions (routed_at c s slot word) }
-    ensures routes_calls { (c : Callers) (s slot word : ℕ) (view : SessionView) → IsUnderWay c view
-        → IsUnderWay (routed_at c s slot word) view }
+    ensures routes_calls { (c : Callers) (s slot word : ℕ) (view : SessionView)
+        → IsUnderWay c view → IsUnderWay (routed_at c s slot word) view }
     ensures hints { (c : Callers) (s : ℕ) (pairs : List (ℕ × ℕ)) → AreSessions c
         → AreSessions (hinted_at c s pairs) }
     ensures hints_calls { (c : Callers) (s : ℕ) (pairs : List (ℕ × ℕ)) (view : SessionView)

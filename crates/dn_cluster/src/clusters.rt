@@ -238,7 +238,8 @@ impl Cluster {
             → lane_in (numbered self.old.nodes n) ≡ Some l → result ≡ not_owner look cell
             → IsNoOwner (M.words mem.old) n l look }
         ensures same { OnFault result (self.new ≡ self.old) }
-        ensures next { OnFault result (is_nothing (answer_of (M.words mem.old) self.old actor) ≡ false) }
+        ensures next { OnFault result
+            (is_nothing (answer_of (M.words mem.old) self.old actor) ≡ false) }
         ensures fails { OnFault result (FailsAs (M.words mem.old) self.old (M.words mem.new)
             (Fails (actor_of actor))) }
         ensures segments { self.new.segments ≡ self.old.segments }
@@ -263,7 +264,8 @@ impl Cluster {
             → lane_in (numbered self.old.nodes lane) ≡ Some l → result ≡ not_owner look cell
             → IsNoOwner (M.words mem.old) lane l look }
         ensures same { OnFault result (self.new ≡ self.old) }
-        ensures next { OnFault result (is_nothing (answer_of (M.words mem.old) self.old (Actor.Lane lane)) ≡ false) }
+        ensures next { OnFault result
+            (is_nothing (answer_of (M.words mem.old) self.old (Actor.Lane lane)) ≡ false) }
         ensures fails { OnFault result (FailsAs (M.words mem.old) self.old (M.words mem.new)
             (Fails (actor_of (Actor.Lane lane)))) }
         ensures segments { self.new.segments ≡ self.old.segments }
@@ -288,7 +290,8 @@ impl Cluster {
         requires { TakesAt self.old at word }
         ensures turn { (x : Node) → slice_get self.old.nodes at ≡ Some x
             → result ≡ turn_of x.lane word }
-        ensures after { (x : Node) → slice_get self.old.nodes at ≡ Some x → self.new ≡ answered_in
+        ensures after { (x : Node) → slice_get self.old.nodes at ≡ Some x
+            → self.new ≡ answered_in
             (with_node self.old at (record x { lane = left_of x.lane word })) (made_at result) }
         ensures cause { (x : Node) (answer : Answer) → slice_get self.old.nodes at ≡ Some x
             → result ≡ Turn.Done answer → CallCause x.lane word answer }
@@ -307,7 +310,8 @@ impl Cluster {
         ensures event { OnDone result (Happens (M.words mem.old) self.old (M.words mem.new) self.new
             (joined result) (Acts (actor_of (Actor.Merger lane)))) }
         ensures same { OnFault result (self.new ≡ self.old) }
-        ensures next { OnFault result (is_nothing (answer_of (M.words mem.old) self.old (Actor.Merger lane)) ≡ false) }
+        ensures next { OnFault result
+            (is_nothing (answer_of (M.words mem.old) self.old (Actor.Merger lane)) ≡ false) }
         ensures fails { OnFault result (FailsAs (M.words mem.old) self.old (M.words mem.new)
             (Fails (actor_of (Actor.Merger lane)))) }
         ensures segments { self.new.segments ≡ self.old.segments }
@@ -331,7 +335,8 @@ impl Cluster {
         ensures event { OnDone result (Happens (M.words mem.old) self.old (M.words mem.new) self.new
             (joined result) (Acts (actor_of (Actor.Monitor)))) }
         ensures same { OnFault result (self.new ≡ self.old) }
-        ensures next { OnFault result (is_nothing (answer_of (M.words mem.old) self.old (Actor.Monitor)) ≡ false) }
+        ensures next { OnFault result
+            (is_nothing (answer_of (M.words mem.old) self.old (Actor.Monitor)) ≡ false) }
         ensures fails { OnFault result (FailsAs (M.words mem.old) self.old (M.words mem.new)
             (Fails (actor_of (Actor.Monitor)))) }
         ensures segments { self.new.segments ≡ self.old.segments }
@@ -353,7 +358,8 @@ impl Cluster {
     /// The monitor takes the word that its action found. After the last answer no order is under way.
     fn monitor_takes(&mut self, word: u64) -> MonitorTurn
         requires { (x : Monitoring) × (self.old.monitor ≡ Some x) }
-        ensures turn { (x : Monitoring) → self.old.monitor ≡ Some x → result ≡ monitor_turn x word }
+        ensures turn { (x : Monitoring) → self.old.monitor ≡ Some x
+            → result ≡ monitor_turn x word }
         ensures after { (x : Monitoring) → self.old.monitor ≡ Some x
             → self.new ≡ record self.old { monitor = ordered x word } }
     {
@@ -376,7 +382,8 @@ impl Cluster {
         ensures event { OnDone result (Happens (M.words mem.old) self.old (M.words mem.new) self.new
             (joined result) (Acts (actor_of (Actor.Session session)))) }
         ensures same { OnFault result (self.new ≡ self.old) }
-        ensures next { OnFault result (is_nothing (answer_of (M.words mem.old) self.old (Actor.Session session)) ≡ false) }
+        ensures next { OnFault result
+            (is_nothing (answer_of (M.words mem.old) self.old (Actor.Session session)) ≡ false) }
         ensures fails { OnFault result (FailsAs (M.words mem.old) self.old (M.words mem.new)
             (Fails (actor_of (Actor.Session session)))) }
         ensures segments { self.new.segments ≡ self.old.segments }
@@ -404,7 +411,8 @@ impl Cluster {
         requires at { at < length self.old.clients }
         requires slot { slot < 64 }
         ensures { (x : Client) → slice_get self.old.clients at ≡ Some x → self.new
-            ≡ with_client self.old at (record x { session = refreshed x.session slot word; load = None }) }
+            ≡ with_client self.old at
+            (record x { session = refreshed x.session slot word; load = None }) }
     {
         let client = &mut self.clients[at];
         client.session.refresh(slot, word);
@@ -420,7 +428,8 @@ impl Cluster {
         ensures event { OnDone result (Happens (M.words mem.old) self.old (M.words mem.new) self.new
             (joined result) (Flows lane index)) }
         ensures same { OnFault result (self.new ≡ self.old) }
-        ensures next { OnFault result (is_nothing (flow_answer (lane_in (numbered self.old.nodes lane)) index) ≡ false) }
+        ensures next { OnFault result
+            (is_nothing (flow_answer (lane_in (numbered self.old.nodes lane)) index) ≡ false) }
         ensures fails { OnFault result (FailsAs (M.words mem.old) self.old (M.words mem.new)
             (FlowFails lane index)) }
         ensures segments { self.new.segments ≡ self.old.segments }
@@ -639,7 +648,8 @@ impl Cluster {
     /// A lane that was made. Of one that is stopped nothing is said.
     pub fn lane(&self, lane: u8) -> &Lane
         requires { IsMade self.now lane }
-        ensures { (l : LaneState) → lane_in (numbered self.now.nodes lane) ≡ Some l → result.now ≡ l }
+        ensures { (l : LaneState) → lane_in (numbered self.now.nodes lane) ≡ Some l
+            → result.now ≡ l }
     {
         &self.nodes[usize::from(lane) - 1].lane
     }

@@ -18,14 +18,16 @@ ghost use Rattle.dn_cluster.specs.Does.{Does, IsTold};
 /// sound before, where the event may be given.
 pub fn given()
     ensures { (words : List ℕ) (c d : ClusterState) (e : Event) (told : List Told)
-        (receipts : List Standing) → Does c d e → IsSound c.segments (machine_of words c told receipts)
+        (receipts : List Standing) → Does c d e
+        → IsSound c.segments (machine_of words c told receipts)
         → IsGiven c.segments (machine_of words c told receipts) e
         → IsSound c.segments (machine_of words d told receipts) }
 {}
 
 /// So does a told position, for a session that isn't closed.
 pub fn told()
-    ensures { (words : List ℕ) (c d : ClusterState) (s : ℕ) (position : Position) (told : List Told)
+    ensures { (words : List ℕ) (c d : ClusterState) (s : ℕ) (position : Position)
+        (told : List Told)
         (receipts : List Standing) → IsTold c d s position → IsSession s → IsOpen c s
         → IsSound c.segments (machine_of words c told receipts)
         → IsSound c.segments (machine_of words d

@@ -28,7 +28,8 @@ ghost use Rattle.dn_core.specs.Written.{len_from};
 pub fn opened()
     ensures sound { (words now : List ℕ) (segments lane : ℕ) → IsZeros words
         → IsOpened words now segments lane → IsLane lane
-        → segments ≤ 8192 → pool_size segments ≤ length now → IsSound now (fresh lane segments) [] }
+        → segments ≤ 8192 → pool_size segments ≤ length now
+        → IsSound now (fresh lane segments) [] }
     ensures exact { (words now : List ℕ) (segments lane : ℕ) → IsZeros words
         → IsOpened words now segments lane → IsLane lane → IsExact now lane [] [] }
 {}
@@ -66,9 +67,11 @@ pub fn holds()
         → IsPermutation receipts history → IsInOrder history → IsLegal history }
     ensures map { (words : List ℕ) (l : LaneState) (receipts history : List Made)
         → IsSound words l receipts
-        → IsPermutation receipts history → IsInOrder history → HoldsMap words (map_left history) }
+        → IsPermutation receipts history → IsInOrder history
+        → HoldsMap words (map_left history) }
     ensures image { (words : List ℕ) (l : LaneState) (receipts : List Made)
         → IsSound words l receipts
         → IsExact words l.log.lane receipts []
-        → IsImage words l.log.lane l.log.pool (gate words l.log.lane).stamp (log_words 0 receipts) }
+        → IsImage words l.log.lane l.log.pool (gate words l.log.lane).stamp
+        (log_words 0 receipts) }
 {}

@@ -52,7 +52,8 @@ pub fn open<M: Memory>(mem: &mut M, segments: u32, lane: u8) -> Result<(), Faile
     requires segments { segments ≤ 8192 }
     requires lane { lane < 64 }
     ensures opened { OnOk result (IsOpened (M.words mem.old) (M.words mem.new) segments lane) }
-    ensures cut_off { OnErr result (IsZeros (M.words mem.old) → HoldsMap (M.words mem.new) empty) }
+    ensures cut_off { OnErr result
+        (IsZeros (M.words mem.old) → HoldsMap (M.words mem.new) empty) }
     ensures size { length (M.words mem.new) ≡ length (M.words mem.old) }
     ensures count { CountsFault result (M.faults mem.old) (M.faults mem.new) }
 {

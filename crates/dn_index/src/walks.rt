@@ -185,7 +185,8 @@ impl Walk {
         ensures after { self.new ≡ walk_after self.old word }
         ensures purpose { purpose self.new ≡ purpose self.old }
         ensures falls { result ≡ WalkTurn.More → actions_left self.new < actions_left self.old }
-        ensures full { (counter : ℕ) → result ≡ WalkTurn.IndexFull counter → counter ≡ word }
+        ensures full { (counter : ℕ) → result ≡ WalkTurn.IndexFull counter
+            → counter ≡ word }
         ensures full_where { (counter : ℕ) → result ≡ WalkTurn.IndexFull counter
             → IsFull self.old.place word }
         ensures full_there { IsFull self.old.place word → result ≡ WalkTurn.IndexFull word }

@@ -141,7 +141,8 @@ impl Known {
         requires { FitsEffect (Some effect) }
         ensures value { self.new ≡ learnt self.old effect }
         ensures anew { (key epoch : ℕ) → effect ≡ Effect.Epoch (slot_of key) epoch
-            → slice_index self.old.epochs (slot_of key) ≢ epoch → pending_of self.new key ≡ None }
+            → slice_index self.old.epochs (slot_of key) ≢ epoch
+            → pending_of self.new key ≡ None }
         ensures same { (slot epoch : ℕ) → effect ≡ Effect.Epoch slot epoch
             → slice_index self.old.epochs slot ≡ epoch → self.new ≡ self.old }
     {

@@ -242,7 +242,8 @@ impl Lane {
         ensures task_cause { (answer : TaskAnswer) → result ≡ Turn.Tended answer
             → TaskCause self.old word answer }
         ensures ending { (receipt : Receipt) (way : Way) → is_sealing self.old.mode ≡ true
-            → result ≡ Turn.Done (Answer.Made receipt way) → ending_of self.old ≡ Some receipt }
+            → result ≡ Turn.Done (Answer.Made receipt way)
+            → ending_of self.old ≡ Some receipt }
         ensures same { SameLane self.old.base self.new.base }
         ensures falls { is_working self.old.mode ≡ true
             → mode_left self.new.base self.new.mode < mode_left self.old.base self.old.mode }

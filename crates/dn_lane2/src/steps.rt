@@ -39,7 +39,8 @@ fn begin_seal(base: &mut Base, asked: &Asked, sealed: Sealed) -> Seal
     requires empty { base.old.staging ≡ [] }
     requires ready { IsReady base.old.known (words_in asked.now) }
     ensures seal { result ≡ sealing_by asked.now sealed }
-    ensures base { base.new ≡ record base.old { staging = waits_by base.old.known asked.now sealed } }
+    ensures base { base.new
+        ≡ record base.old { staging = waits_by base.old.known asked.now sealed } }
     ensures fits { IsSealing base.new.known result base.new.staging }
     ensures left { length base.new.staging ≤ 132 }
 {
@@ -128,7 +129,10 @@ fn enter_after(base: &mut Base, asked: &Asked, after: After) -> Going
 fn enter_find(base: &mut Base, asked: &Asked, wait: Locate) -> Find
     requires fits { FitsLocate (brief_of base.old.known.log.lane asked.now) wait }
     ensures find { result ≡ (located base.old asked.now wait).find }
-    ensures base { base.new ≡ record base.old { fetch = (located base.old asked.now wait).fetch } }
+    ensures base { base.new ≡ record base.old {
+      fetch =
+          (located base.old asked.now wait).fetch;
+    } }
     ensures fits { FitsFind base.new.fetch result }
     ensures pool { base.new.fetch.segments ≡ base.old.fetch.segments }
     ensures left { find_left base.new.fetch result < 590000 }
@@ -305,7 +309,8 @@ pub fn step(base: &mut Base, asked: &mut Asked, mode: Mode, word: u64) -> Going
     ensures still { FitsAsked asked.new }
     ensures fits { FitsGoing base.new asked.new result }
     ensures same { SameLane base.old base.new }
-    ensures falls { is_working mode ≡ true → going_left base.new result < mode_left base.old mode }
+    ensures falls { is_working mode ≡ true
+        → going_left base.new result < mode_left base.old mode }
 {
     match mode {
         Mode::Idle => Going::On { mode },

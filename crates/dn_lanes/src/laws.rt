@@ -26,17 +26,19 @@ ghost use Rattle.dn_lanes.specs.Begun.{IsOwnTask, IsMade, IsStoppedAt};
 
 /// What a lane knows at any phase lasts under the steps of all others.
 pub fn lasting()
-    ensures { (n : ℕ) (l : LaneState) (p q : Pool) → IsWhole p → IsWhole q → IsLane n → Grows p q
-        → LeavesLane n p q → IsLaneAt n l p → IsLaneAt n l q }
+    ensures { (n : ℕ) (l : LaneState) (p q : Pool) → IsWhole p → IsWhole q → IsLane n
+        → Grows p q → LeavesLane n p q → IsLaneAt n l p → IsLaneAt n l q }
 {}
 
 /// Each action of a lane, at whatever phase of a call or of a task that concerns no shared key: it is to all others a step
 /// that leaves them what they know, and the lane knows its next phase. A receipt joins where the call is made and nowhere
 /// else, and nothing that is held changes without one. So does a staged word that flows out of turn, also behind a fence.
 pub fn acting()
-    ensures step { (p : Pool) (n : ℕ) (l : LaneState) (action : Action) (word : ℕ) (now : List ℕ)
+    ensures step { (p : Pool) (n : ℕ) (l : LaneState) (action : Action) (word : ℕ)
+        (now : List ℕ)
         → IsWhole p → IsLane n → (store_in p).segment_count < 2 ^ 64 - 1 → IsLaneAt n l p
-        → next_of l ≡ Some action → Performs action word p.words now → LaneStepped p n l word now }
+        → next_of l ≡ Some action → Performs action word p.words now
+        → LaneStepped p n l word now }
     ensures flow { (p : Pool) (n : ℕ) (l : LaneState) (index : ℕ) (action : Action) (word : ℕ)
         (now : List ℕ) → IsWhole p → IsLane n → IsLaneAt n l p
         → flow_of l.base.staging index ≡ Some action → Performs action word p.words now
@@ -48,8 +50,8 @@ pub fn beginning()
     ensures call { (n : ℕ) (l : LaneState) (view : SessionView) (call : Call) (p : Pool)
         → IsLaneAt n l p → l.mode ≡ Idle → IsCall call → view.last.stamp < 2 ^ 31
         → IsLaneAt n (begun l view call) p }
-    ensures task { (n : ℕ) (l : LaneState) (t : Task) (p : Pool) → IsLaneAt n l p → l.mode ≡ Idle
-        → IsOwnTask t → IsLaneAt n (begun_task l t) p }
+    ensures task { (n : ℕ) (l : LaneState) (t : Task) (p : Pool) → IsLaneAt n l p
+        → l.mode ≡ Idle → IsOwnTask t → IsLaneAt n (begun_task l t) p }
 {}
 
 /// A lane that was never made begins with an empty log and nothing under way. Steps of others leave it unmade, and so is
@@ -66,6 +68,6 @@ pub fn making()
 /// A lane that is stopped at an action that was done: the receipt of that action joins, and nothing is known of the lane
 /// any more.
 pub fn stopping()
-    ensures { (p : Pool) (n : ℕ) (l : LaneState) (now : List ℕ) (t : Taken) → ComesTo p n l now t
-        → IsStoppedAt p n l now t }
+    ensures { (p : Pool) (n : ℕ) (l : LaneState) (now : List ℕ) (t : Taken)
+        → ComesTo p n l now t → IsStoppedAt p n l now t }
 {}

@@ -22,8 +22,10 @@ ghost use Rattle.dn_learnt.specs.Pendings.{MayAsk, IsPendingAt, HasNone};
 
 /// The load of a deed. A lane that is owner by it has looked then; one that isn't has met the epoch alone.
 pub fn looking()
-    ensures owner { (p : Pool) (n slot word : ℕ) (k : KnownState) → IsWhole p → IsLane n → slot < 64
-        → Learns p n k → k.log.len ≡ ((store_in p).gates n).len → word ≡ word_at p.words (deed_at slot)
+    ensures owner { (p : Pool) (n slot word : ℕ) (k : KnownState) → IsWhole p → IsLane n
+        → slot < 64
+        → Learns p n k → k.log.len ≡ ((store_in p).gates n).len
+        → word ≡ word_at p.words (deed_at slot)
         → is_owner n word ≡ true → IsLooked p n slot word k }
     ensures other { (p : Pool) (n slot word : ℕ) (k : KnownState) → IsWhole p → slot < 64
         → Learns p n k → word ≡ word_at p.words (deed_at slot)
@@ -34,8 +36,10 @@ pub fn looking()
 /// one that counts is the key's authority, or a Delete of a key without one; and where none counts, no log has a record
 /// of the key that isn't merged. So what it learnt of the slot in an earlier epoch counts no more.
 pub fn asking()
-    ensures some { (p : Pool) (n key : ℕ) (k : KnownState) (at : Ref) → IsWhole p → slot_of key < 64
-        → k.log.lane ≡ n → MayAsk p n key k → pending_of k key ≡ Some at → IsPendingAt p n key at }
+    ensures some { (p : Pool) (n key : ℕ) (k : KnownState) (at : Ref) → IsWhole p
+        → slot_of key < 64
+        → k.log.lane ≡ n → MayAsk p n key k → pending_of k key ≡ Some at
+        → IsPendingAt p n key at }
     ensures none { (p : Pool) (n key : ℕ) (k : KnownState) → IsWhole p → slot_of key < 64
         → MayAsk p n key k → pending_of k key ≡ None → HasNone p n key }
 {}
@@ -43,10 +47,14 @@ pub fn asking()
 /// The load of its mark, which drops pending records; the end of a call or task; a record that is sealed joins the
 /// pending ones.
 pub fn learning()
-    ensures trim { (p : Pool) (n word : ℕ) (k : KnownState) → IsWhole p → IsLane n → Learns p n k
-        → word ≡ word_at p.words (mark_at n) → IsTrimmed p n (record k { pending = kept_past word k.pending }) }
-    ensures end { (p : Pool) (n : ℕ) (k : KnownState) → IsWhole p → Learns p n k → IsTaught p n k }
-    ensures seal { (v : Knows) (deeds : ℕ → Deed) (n : ℕ) (k after : KnownState) (more : List Pending)
+    ensures trim { (p : Pool) (n word : ℕ) (k : KnownState) → IsWhole p → IsLane n
+        → Learns p n k
+        → word ≡ word_at p.words (mark_at n)
+        → IsTrimmed p n (record k { pending = kept_past word k.pending }) }
+    ensures end { (p : Pool) (n : ℕ) (k : KnownState) → IsWhole p → Learns p n k
+        → IsTaught p n k }
+    ensures seal { (v : Knows) (deeds : ℕ → Deed) (n : ℕ) (k after : KnownState)
+        (more : List Pending)
         (new : List Entry) → after.epochs ≡ k.epochs → after.counts ≡ k.counts
         → after.pending.entries ≡ k.pending.entries ++ new → more ≡ map pending_by new
         → Heeds v deeds n k → Heeds (record v { pending = v.pending ++ more }) deeds n after }
@@ -55,7 +63,8 @@ pub fn learning()
 /// A lane begins with an empty log and knows nothing; one that is stopped knows nothing more; and what a lane knows
 /// lasts under the steps of others.
 pub fn lasting()
-    ensures begin { (p : Pool) (n : ℕ) (k : KnownState) → IsWhole p → (store_in p).logs n ≡ []
+    ensures begin { (p : Pool) (n : ℕ) (k : KnownState) → IsWhole p
+        → (store_in p).logs n ≡ []
         → k.epochs ≡ replicate 64 0 → k.counts ≡ replicate 64 0 → k.pending.entries ≡ []
         → IsTaught p n k }
     ensures stop { (p : Pool) (n : ℕ) → IsWhole p → IsStopped p n }

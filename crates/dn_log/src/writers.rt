@@ -169,7 +169,8 @@ impl LogWriter {
         requires count { length self.old.segments < 256 }
         requires segment { segment < self.old.pool }
         ensures value { self.new ≡ record self.old { spare = Some segment } }
-        ensures reach { (words : ℕ) → words ≤ 1024 → (plan_of self.new words).need_segment ≡ false }
+        ensures reach { (words : ℕ) → words ≤ 1024
+            → (plan_of self.new words).need_segment ≡ false }
     {
         self.spare = Some(segment);
     }

@@ -31,7 +31,8 @@ ghost use Rattle.dn_machine.specs.Histories.{IsHistory, IsSealedIn};
 pub fn opening()
     ensures format { (words : List ℕ) (segments : ℕ) (heirs : List ℕ) → IsZeros words
         → length words ≡ pool_size segments → segments ≤ 8192 → IsSound segments (happens
-        (record (resting words) { monitor = Some (begun (order.Format segments) heirs) }) (Acts Monitor)) }
+        (record (resting words) { monitor = Some (begun (order.Format segments) heirs) })
+        (Acts Monitor)) }
     ensures granted { (words : List ℕ) (pool lanes : ℕ) (owners : ℕ → ℕ)
         → IsFreshPool words pool lanes owners → pool ≤ 8192 → IsSound pool (resting words) }
 {}
@@ -73,7 +74,8 @@ pub fn callers_order()
 /// lane has sealed.
 pub fn records()
     ensures { (segments : ℕ) (m : Machine) (r : Made) → IsSound segments m
-        → Contains (receipts_of m.callers.receipts) r → IsWrite r.call → IsSealedIn m.words r }
+        → Contains (receipts_of m.callers.receipts) r → IsWrite r.call
+        → IsSealedIn m.words r }
 {}
 
 /// A session that isn't closed was answered each of its receipts; a receipt without an answer is its session's last.
@@ -95,11 +97,13 @@ pub fn answers()
 /// answers, which the words hold before the action, and leaves what the plain map leaves; any other action of a lane, and
 /// so each attempt that ends in anything but made, leaves the map.
 pub fn attempts()
-    ensures reply { (segments : ℕ) (m : Machine) (n : ℕ) (l : LaneState) (action : Action) (r : Made)
+    ensures reply { (segments : ℕ) (m : Machine) (n : ℕ) (l : LaneState) (action : Action)
+        (r : Made)
         (map : Bytes) → IsSound segments m → m.lanes n ≡ Some l → next_of l ≡ Some action
         → receipt_by (turn_of l (found m action)) ≡ Some r → HoldsMap m.words map
         → r.reply ≡ reply_of r.call map }
-    ensures map { (segments : ℕ) (m : Machine) (n : ℕ) (l : LaneState) (action : Action) (r : Made)
+    ensures map { (segments : ℕ) (m : Machine) (n : ℕ) (l : LaneState) (action : Action)
+        (r : Made)
         (map : Bytes) → IsSound segments m → m.lanes n ≡ Some l → next_of l ≡ Some action
         → receipt_by (turn_of l (found m action)) ≡ Some r → HoldsMap m.words map
         → HoldsMap (words_after action m.words) (map_after r.call map) }

@@ -112,10 +112,10 @@ impl Merger {
         ensures turn { result ≡ merge_turn self.old word }
         ensures after { self.new ≡ merge_after self.old word }
         ensures lane { self.new.lane ≡ self.old.lane }
-        ensures idle { (gate mark : ℕ) → result ≡ MergeTurn.Idle gate mark ↔ IsIdle gate mark word
-            self.old.place }
-        ensures full { (counter : ℕ) → result ≡ MergeTurn.IndexFull counter ↔ IsFull counter word
-            self.old.place }
+        ensures idle { (gate mark : ℕ)
+            → result ≡ MergeTurn.Idle gate mark ↔ IsIdle gate mark word self.old.place }
+        ensures full { (counter : ℕ)
+            → result ≡ MergeTurn.IndexFull counter ↔ IsFull counter word self.old.place }
         ensures falls { HasFewer (merge_left self.old) self.new.place }
         ensures begins { EndsTurn result self.old.place → self.new ≡ started self.old.lane }
     {
@@ -132,8 +132,8 @@ impl Merger {
         ensures fits { FitsAt result.place }
         ensures falls { HasFewer (merge_left self.now) result.place }
         ensures begins { EndsTurn result.turn self.now.place → result.place ≡ MergePlace.Gate }
-        ensures full { (counter : ℕ) → result.turn ≡ MergeTurn.IndexFull counter ↔ IsFull counter
-            word self.now.place }
+        ensures full { (counter : ℕ)
+            → result.turn ≡ MergeTurn.IndexFull counter ↔ IsFull counter word self.now.place }
     {
         match self.place {
             MergePlace::Gate => go(MergePlace::Mark { gate: word }),

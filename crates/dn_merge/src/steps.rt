@@ -138,7 +138,8 @@ pub(crate) fn after_walk(to: u32, walk: Walk, word: u64) -> MergeStep
     ensures value { result ≡ walked to (walk_turn walk word) (walk_after walk word) }
     ensures fits { FitsAt result.place }
     ensures falls { HasFewer (1 + actions_left walk) result.place }
-    ensures full { (counter : ℕ) → result.turn ≡ MergeTurn.IndexFull counter ↔ (word ≡ counter)
+    ensures full { (counter : ℕ)
+        → result.turn ≡ MergeTurn.IndexFull counter ↔ (word ≡ counter)
         × NeedsMore walk.place word }
 {
     let mut walk = walk;

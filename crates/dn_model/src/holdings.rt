@@ -148,7 +148,8 @@ pub fn holder_named(logs: &[List<Placed>], key: u64, at: Option<Ref>) -> Holder<
 
 /// The holder that an authority record gives the key.
 fn holder_by<'a>(words: &[u64], logs: &'a [List<Placed>], key: u64, entry: &'a Record) -> Holder<'a>
-    ensures { told_holder result ≡ holder_by_of (cell words.now) (logs_of logs.now) key entry.now }
+    ensures { told_holder result ≡ holder_by_of (cell words.now)
+        (logs_of logs.now) key entry.now }
 {
     match entry {
         Record::Put { .. } | Record::Delete { .. } => Holder::Is(entry),

@@ -123,7 +123,8 @@ impl Monitor {
         requires rising { IsStrictlyIncreasing live.now }
         requires lanes { All (λ lane. (1 ≤ lane) × (lane < 64)) live.now }
         ensures value { result ≡ begun order result.heirs }
-        ensures heirs { (lane : ℕ) → order ≡ Order.Takeover lane → AreHeirs live.now result.heirs }
+        ensures heirs { (lane : ℕ) → order ≡ Order.Takeover lane
+            → AreHeirs live.now result.heirs }
         ensures sequence { CarriesOut result (sequence result.heirs order) }
     {
         Monitor {

@@ -65,7 +65,8 @@ pub fn outcomes()
         → GoesOn (is_end (does w e heirs).outcome s) (call_of w.waiting s)
         (call_of (does w e heirs).world.waiting s)) }
     ensures begins { (w : World) (s : ℕ) (lane : Option ℕ) (call : Call) (heirs : List ℕ)
-        → IsWorld w → IsSession s → Starts w (does w (event.Start s lane call) heirs).world s call
+        → IsWorld w → IsSession s
+        → Starts w (does w (event.Start s lane call) heirs).world s call
         (does w (event.Start s lane call) heirs).outcome }
     ensures numbers { AtEvents (λ w e heirs. Names w.waiting (does w e heirs).outcome) }
     ensures runs { OverRuns (λ w es. calls_of (after w es).machine.callers.receipts

@@ -38,8 +38,10 @@ pub fn run()
         (putting ++ merging ++ leaving ++ released ++ loading ++ granting 2 1) }
     ensures sound { (pool : ℕ) → IsSound (after (opened pool) moving) }
     ensures owner { (pool : ℕ) → owner_in (after (opened pool) moving).store 5 ≡ 2 }
-    ensures held { (pool : ℕ) → holds (after (opened pool) moving).store 5 ≡ Says (Some (97 ∷ [])) }
-    ensures runs { (o : Owners) (es : List Event) → IsSound o → IsRun o es → IsSound (after o es) }
+    ensures held { (pool : ℕ)
+        → holds (after (opened pool) moving).store 5 ≡ Says (Some (97 ∷ [])) }
+    ensures runs { (o : Owners) (es : List Event) → IsSound o → IsRun o es
+        → IsSound (after o es) }
 {}
 
 /// The same run with one thing left out, and the state to which it leads isn't sound: the log isn't merged before the
@@ -53,7 +55,8 @@ pub fn wrong_runs()
     ensures early { (pool : ℕ) → IsSound (after (opened pool)
         (putting ++ merging ++ leaving ++ loading)) → ⊥ }
     ensures same_epoch { (pool : ℕ) → IsSound (after (opened pool)
-        (putting ++ merging ++ leaving ++ released ++ loading ++ granting 1 1 ++ returning 1)) → ⊥ }
+        (putting ++ merging ++ leaving ++ released ++ loading ++ granting 1 1 ++ returning 1))
+        → ⊥ }
 {}
 
 /// Each event keeps every part; logs, gates, marks, epochs, floors and promised stamps only grow.

@@ -30,7 +30,8 @@ ghost use Rattle.dn_reach.specs.Sealing.{MayWrite, MaySeal};
 /// A lane whose gate has length 0, and whose directory names nothing, begins with an empty log.
 pub fn begins()
     ensures { (p : Pool) (n : ℕ) → IsLane n → (store_in p).pool ≤ 8192
-        → ((store_in p).gates n).len ≡ 0 → ((q : ℕ) → q < 256 → directory p.words n q ≡ 0)
+        → ((store_in p).gates n).len ≡ 0
+        → ((q : ℕ) → q < 256 → directory p.words n q ≡ 0)
         → HoldsLog p n (empty_log n (store_in p).pool) }
 {}
 
@@ -47,17 +48,18 @@ pub fn lasts()
 
 /// A log with a spare segment has room for any record with a key; so one that needs a segment has no spare one.
 pub fn room()
-    ensures spare { (log : Log) (r : Record) (k g : ℕ) → IsFit log → IsRecord r → key_of r ≡ Some k
+    ensures spare { (log : Log) (r : Record) (k g : ℕ) → IsFit log → IsRecord r
+        → key_of r ≡ Some k
         → log.spare ≡ Some g → (plan_for log r).need_segment ≡ false }
-    ensures none { (log : Log) (r : Record) (k : ℕ) → IsFit log → IsRecord r → key_of r ≡ Some k
-        → (plan_for log r).need_segment ≡ true → log.spare ≡ None }
+    ensures none { (log : Log) (r : Record) (k : ℕ) → IsFit log → IsRecord r
+        → key_of r ≡ Some k → (plan_for log r).need_segment ≡ true → log.spare ≡ None }
 {}
 
 /// The words that are staged for a record that has room are such as the lane may stage, go to words of the pool of their
 /// own, and are all on their way at first.
 pub fn staged()
-    ensures may { (log : Log) (r : Record) → IsRecord r → (plan_for log r).need_segment ≡ false
-        → MayStageAll log (staged_for log r) }
+    ensures may { (log : Log) (r : Record) → IsRecord r
+        → (plan_for log r).need_segment ≡ false → MayStageAll log (staged_for log r) }
     ensures apart { (log : Log) (r : Record) (k : ℕ) → IsFit log → IsApart (reach_of log)
         → IsRecord r → key_of r ≡ Some k → (plan_for log r).need_segment ≡ false
         → GoApart (staged_for log r) }
@@ -87,8 +89,10 @@ pub fn claim()
         → Performs (Add segment_counter_at 1) word p.words now → word < (store_in p).pool
         → IsStepBy (by_lane n) p (after_claim p n now) }
     ensures quiet { (p : Pool) (n : ℕ) (now : List ℕ) → IsQuiet p (after_claim p n now) }
-    ensures log { (p : Pool) (n : ℕ) (log : Log) (word : ℕ) (now : List ℕ) → IsLaneOf p n log
-        → (store_in p).segment_count < 2 ^ 64 - 1 → log.spare ≡ None → length log.segments < 256
+    ensures log { (p : Pool) (n : ℕ) (log : Log) (word : ℕ) (now : List ℕ)
+        → IsLaneOf p n log
+        → (store_in p).segment_count < 2 ^ 64 - 1 → log.spare ≡ None
+        → length log.segments < 256
         → Performs (Add segment_counter_at 1) word p.words now → word < (store_in p).pool
         → HoldsLog (after_claim p n now) n (record log { spare = Some word }) }
     ensures miss_step { (p : Pool) (n word : ℕ) (now : List ℕ) → IsWhole p → IsLane n
@@ -96,15 +100,15 @@ pub fn claim()
         → Performs (Add segment_counter_at 1) word p.words now
         → IsStepBy (by_lane n) p (after_miss p now) }
     ensures miss_quiet { (p : Pool) (now : List ℕ) → IsQuiet p (after_miss p now) }
-    ensures miss_log { (p : Pool) (n : ℕ) (log : Log) (word : ℕ) (now : List ℕ) → IsLaneOf p n log
-        → Performs (Add segment_counter_at 1) word p.words now
+    ensures miss_log { (p : Pool) (n : ℕ) (log : Log) (word : ℕ) (now : List ℕ)
+        → IsLaneOf p n log → Performs (Add segment_counter_at 1) word p.words now
         → HoldsLog (after_miss p now) n log }
 {}
 
 /// An exchange that finds another word leaves all words as they are.
 pub fn missed()
-    ensures { (words now : List ℕ) (at old new word : ℕ) → Performs (Cas at old new) word words now
-        → word ≢ old → now ≡ words }
+    ensures { (words now : List ℕ) (at old new word : ℕ)
+        → Performs (Cas at old new) word words now → word ≢ old → now ≡ words }
 {}
 
 /// A lane raises the stamp of its gate, which keeps its length.
@@ -114,11 +118,12 @@ pub fn raise()
         → IsStepBy (by_lane n) p (after_raise p n old stamp now) }
     ensures quiet { (p : Pool) (n old stamp : ℕ) (now : List ℕ)
         → IsQuiet p (after_raise p n old stamp now) }
-    ensures log { (p : Pool) (n : ℕ) (log : Log) (old stamp : ℕ) (now : List ℕ) → IsLaneOf p n log
-        → IsExchanged p n old stamp (gate_of old).len now
+    ensures log { (p : Pool) (n : ℕ) (log : Log) (old stamp : ℕ) (now : List ℕ)
+        → IsLaneOf p n log → IsExchanged p n old stamp (gate_of old).len now
         → HoldsLog (after_raise p n old stamp now) n log }
     ensures gate { (p : Pool) (n old stamp : ℕ) (now : List ℕ)
-        → (store_in (after_raise p n old stamp now)).gates n ≡ open_gate stamp (gate_of old).len }
+        → (store_in (after_raise p n old stamp now)).gates n ≡ open_gate stamp
+        (gate_of old).len }
 {}
 
 /// A lane seals a put or delete, all of whose words stand in the pool: the gate gets the plan's length, the log its
@@ -137,8 +142,8 @@ pub fn seal()
         → IsExchanged p n old stamp (plan_for log r).len now
         → holds (store_in (after_seal p n log r stamp now)) k ≡ Says (value_of r) }
     ensures others { (p : Pool) (n : ℕ) (log : Log) (k : ℕ) (r : Record) (old stamp : ℕ)
-        (now : List ℕ) (q : ℕ) (v : Option (List ℕ)) → IsLaneOf p n log → MaySeal p n log k r
-        → IsExchanged p n old stamp (plan_for log r).len now → q ≢ k
+        (now : List ℕ) (q : ℕ) (v : Option (List ℕ)) → IsLaneOf p n log
+        → MaySeal p n log k r → IsExchanged p n old stamp (plan_for log r).len now → q ≢ k
         → holds (store_in p) q ≡ Says v
         → holds (store_in (after_seal p n log r stamp now)) q ≡ Says v }
     ensures promised { (p : Pool) (n : ℕ) (log : Log) (r : Record) (stamp : ℕ) (now : List ℕ)
@@ -149,8 +154,8 @@ pub fn seal()
     ensures logs { (p : Pool) (n : ℕ) (log : Log) (r : Record) (stamp : ℕ) (now : List ℕ)
         → (store_in (after_seal p n log r stamp now)).logs n
         ≡ (store_in p).logs n ++ placed_by (plan_for log r) r }
-    ensures knows { (p : Pool) (n : ℕ) (log : Log) (k : ℕ) (r : Record) (stamp : ℕ) (now : List ℕ)
-        → MaySeal p n log k r → (after_seal p n log r stamp now).owners.knows n
+    ensures knows { (p : Pool) (n : ℕ) (log : Log) (k : ℕ) (r : Record) (stamp : ℕ)
+        (now : List ℕ) → MaySeal p n log k r → (after_seal p n log r stamp now).owners.knows n
         ≡ record (p.owners.knows n) {
           pending = (p.owners.knows n).pending
               ++ record { key = k; offset = (plan_for log r).at } ∷ [];
@@ -167,8 +172,8 @@ pub fn ready()
 
 /// What a put or delete leaves of its log's new records: at its key itself, and nothing at others.
 pub fn added()
-    ensures own { (plan : Plan) (r : Record) (k : ℕ) → is_plain r ≡ true → key_of r ≡ Some k
-        → unmerged k 0 (placed_by plan r) ≡ Some r }
-    ensures other { (plan : Plan) (r : Record) (k q : ℕ) → is_plain r ≡ true → key_of r ≡ Some k
-        → q ≢ k → unmerged q 0 (placed_by plan r) ≡ None }
+    ensures own { (plan : Plan) (r : Record) (k : ℕ) → is_plain r ≡ true
+        → key_of r ≡ Some k → unmerged k 0 (placed_by plan r) ≡ Some r }
+    ensures other { (plan : Plan) (r : Record) (k q : ℕ) → is_plain r ≡ true
+        → key_of r ≡ Some k → q ≢ k → unmerged q 0 (placed_by plan r) ≡ None }
 {}

@@ -30,8 +30,8 @@ pub fn fresh()
 /// A step at which none joins keeps the receipts, and one at which a receipt of a key joins has it behind them. A get that
 /// nobody is answered may be left out.
 pub fn joins()
-    ensures none { (p q : Pool) (rs : List Made) → AreReceipts p rs → Grows p q → Joins p q None
-        → AreReceipts q rs }
+    ensures none { (p q : Pool) (rs : List Made) → AreReceipts p rs → Grows p q
+        → Joins p q None → AreReceipts q rs }
     ensures one { (p q : Pool) (rs : List Made) (r : Made) → AreReceipts p rs → Grows p q
         → Joins p q (Some r) → key_of r.call ≢ 0 → AreReceipts q (rs ++ r ∷ []) }
     ensures left_out { (p q : Pool) (rs : List Made) (r : Made) (k : ℕ) → AreReceipts p rs
@@ -61,12 +61,13 @@ pub fn history()
 pub fn replies()
     ensures get { (p q : Pool) (rs : List Made) (r : Made) (k : ℕ) → AreReceipts p rs
         → Joins p q (Some r) → r.call ≡ Get k → k ≢ 0
-        → (v : Option (List ℕ)) × (holds (store_in p) k ≡ Says v) × (r.reply ≡ found_of v) }
+        → (v : Option (List ℕ)) × (holds (store_in p) k ≡ Says v) ×
+        (r.reply ≡ found_of v) }
     ensures put { (p q : Pool) (r : Made) (k : ℕ) (value : List ℕ)
         → Joins p q (Some r) → r.call ≡ Put k value
         → (holds (store_in q) k ≡ Says (Some value)) × (r.reply ≡ Stored) }
-    ensures delete { (p q : Pool) (r : Made) (k : ℕ) → Joins p q (Some r) → r.call ≡ Delete k
-        → (holds (store_in q) k ≡ Says None) × (r.reply ≡ Deleted) }
+    ensures delete { (p q : Pool) (r : Made) (k : ℕ) → Joins p q (Some r)
+        → r.call ≡ Delete k → (holds (store_in q) k ≡ Says None) × (r.reply ≡ Deleted) }
 {}
 
 /// Each step does to the pool's map what a plain map does: where none joins it stays, and a call that joins is answered

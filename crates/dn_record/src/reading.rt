@@ -13,7 +13,8 @@ use std::alloc::Global;
 /// spells one. The room then stays, and so it does at the other kinds. A pad is spelled by its header alone.
 pub fn look(words: &[u64], room: &mut ValueRoom) -> Option<Seen>
     ensures record { (r : Record) → FrontSpells words.now r → result ≡ Some (seen_of r) }
-    ensures value { (r : Record) → FrontSpells words.now r → room.new ≡ held_after r room.old }
+    ensures value { (r : Record) → FrontSpells words.now r
+        → room.new ≡ held_after r room.old }
     ensures only { OnSome result (BeginsWithRecord words.now) }
     ensures none { IfNone result (room.new ≡ room.old) }
 {

@@ -87,7 +87,8 @@ fn write_valued(head: u64, key: u64, value: &Value, out: &mut [u64]) -> usize
 fn write_bytes(bytes: &[u8], out: &mut [u64]) -> usize
     requires short { length bytes.now ≤ 1024 }
     requires room { words_for (length bytes.now) ≤ length out.old }
-    ensures words { out.new ≡ value_words bytes.now ++ drop (words_for (length bytes.now)) out.old }
+    ensures words { out.new ≡ value_words bytes.now ++ drop
+        (words_for (length bytes.now)) out.old }
     ensures length { result ≡ words_for (length bytes.now) }
     ensures value { IsValue bytes.now }
 {

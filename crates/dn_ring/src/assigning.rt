@@ -64,8 +64,8 @@ fn lane_of(first: Option<Point>, next: u8) -> u8
 
 /// The lane of the lowest point of all, which a slot past all points goes to, or 0 where there is no point.
 fn lowest_lane(firsts: &Firsts) -> u8
-    ensures owner { (live : List ℕ) → live ≢ [] → AreFirsts live (16 * length live) firsts.now
-        → IsOwner live 64 result }
+    ensures owner { (live : List ℕ) → live ≢ []
+        → AreFirsts live (16 * length live) firsts.now → IsOwner live 64 result }
     ensures none { AreFirsts [] 0 firsts.now → result ≡ 0 }
 {
     for arc in 0..64usize {

@@ -7,8 +7,8 @@ ghost use Rattle.dn_ring.specs.Ring.{distance, IsOwner, IsOneMore};
 /// In which order places are met from where a slot begins: those from there on before those below, and of two on the
 /// same side the lower one first.
 pub fn met()
-    ensures turn { (slot a b : ℕ) → slot < 64 → a < 2 ^ 64 → b < slot * 2 ^ 58 → slot * 2 ^ 58 ≤ a
-        → distance slot a < distance slot b }
+    ensures turn { (slot a b : ℕ) → slot < 64 → a < 2 ^ 64 → b < slot * 2 ^ 58
+        → slot * 2 ^ 58 ≤ a → distance slot a < distance slot b }
     ensures above { (slot a b : ℕ) → slot < 64 → slot * 2 ^ 58 ≤ a → a < b → b < 2 ^ 64
         → distance slot a < distance slot b }
     ensures below { (slot a b : ℕ) → slot < 64 → a < b → b < slot * 2 ^ 58
@@ -26,8 +26,10 @@ pub fn determined()
 /// out gives up its own slots alone: a slot of another lane keeps its owner. Its own go to lanes that are left, as an
 /// owner is live.
 pub fn moves()
-    ensures added { (lane : ℕ) (fewer more : List ℕ) (slot a b : ℕ) → IsOneMore lane fewer more
+    ensures added { (lane : ℕ) (fewer more : List ℕ) (slot a b : ℕ)
+        → IsOneMore lane fewer more
         → IsOwner fewer slot a → IsOwner more slot b → b ≢ lane → b ≡ a }
-    ensures removed { (lane : ℕ) (fewer more : List ℕ) (slot a : ℕ) → IsOneMore lane fewer more
+    ensures removed { (lane : ℕ) (fewer more : List ℕ) (slot a : ℕ)
+        → IsOneMore lane fewer more
         → IsOwner more slot a → a ≢ lane → IsOwner fewer slot a }
 {}

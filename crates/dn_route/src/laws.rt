@@ -14,7 +14,8 @@ ghost use Rattle.dn_route.specs.CallersOrder.{Told, told_now, KeepsCallersOrder,
 pub fn knowledge()
     ensures opened { (told : List Told) (receipts : List Receipt) (n : ℕ)
         → ((r : Receipt) → Contains receipts r → r.position.session ≢ n)
-        → ((t : Told) → Contains told t → t.session ≢ n) → Knows told receipts (opened n) }
+        → ((t : Told) → Contains told t → t.session ≢ n)
+        → Knows told receipts (opened n) }
     ensures numbered { (told : List Told) (receipts : List Receipt) (s : SessionState)
         → Knows told receipts s → Knows told receipts (numbered s) }
     ensures heard { (told : List Told) (receipts : List Receipt) (s : SessionState) (p : Position)
@@ -51,6 +52,6 @@ pub fn orders()
         → KeepsCallersOrder (told ++ told_now s p ∷ []) receipts }
     ensures made { (told : List Told) (receipts : List Receipt) (view : SessionView) (r : Receipt)
         → KeepsCallersOrder told receipts → IsGood told receipts view
-        → r.position.session ≡ view.session → r.number ≡ view.number → IsBefore view.last r.position
-        → KeepsCallersOrder told (receipts ++ r ∷ []) }
+        → r.position.session ≡ view.session → r.number ≡ view.number
+        → IsBefore view.last r.position → KeepsCallersOrder told (receipts ++ r ∷ []) }
 {}

@@ -221,7 +221,8 @@ fn read_on<'a>(
     rest: Option<&'a [u8]>,
     found: Found<'a>,
 ) -> Result<Found<'a>, Cause>
-    ensures { said_in result ≡ reading rules parts.now (left_of rest.entry) (said_by found.entry) }
+    ensures { said_in result ≡ reading rules parts.now (left_of rest.entry)
+        (said_by found.entry) }
 {
     let mut rest = rest;
     let mut found = found;

@@ -42,7 +42,8 @@ pub(crate) struct Draft {
 /// So far each line is a get or a put of the first session, and the script takes the lesser of 1,024 segments and the
 /// pool's.
 pub fn parse(alloc: Global, bytes: &[u8], mode: Mode, segments: u32) -> Result<Script, ParseFault>
-    ensures script { IfOk result (λ script. script_of played mode segments bytes.now ≡ Ok script) }
+    ensures script { IfOk result
+        (λ script. script_of played mode segments bytes.now ≡ Ok script) }
     ensures count { IfOk result (λ script. line_count bytes.now ≤ 1000000) }
     ensures fit { IfOk result (λ script. All IsLine script.lines) }
     ensures few { IfOk result (λ script. length script.lines ≤ length bytes.now) }
@@ -211,7 +212,8 @@ fn fault_at(number: u64, fault: LineFault) -> ParseFault
 
 /// What the lines give.
 fn drafts(alloc: Global, verbs: &[Verb], rules: Rules, bytes: &[u8]) -> Result<Draft, ParseFault>
-    ensures ok { IfOk result (λ draft. draft_in verbs.now rules bytes.now ≡ Ok (draft_of draft)) }
+    ensures ok { IfOk result
+        (λ draft. draft_in verbs.now rules bytes.now ≡ Ok (draft_of draft)) }
     ensures bad { IfErr result (IsDraftFault (draft_in verbs.now rules bytes.now)) }
 {
     let mut header = Header {

@@ -96,7 +96,8 @@ impl Seal {
         requires ready { IsReady known.now 3 }
         requires empty { staging.old ≡ [] }
         ensures value { result ≡ task_seal key seal }
-        ensures waits { staging.new ≡ staged_of known.now.log 3 (spelling (task_record key seal)) }
+        ensures waits { staging.new ≡ staged_of known.now.log 3
+            (spelling (task_record key seal)) }
         ensures fits { IsSealing known.now result staging.new }
         ensures left { length staging.new ≤ 132 }
         ensures apart { IsApart (reach_of known.now.log) → GoApart staging.new }

@@ -37,12 +37,13 @@ pub fn meaning()
     ensures chains { (words : List ℕ) (chains others : ℕ → List ℕ) (s t : StoreState)
         → Represents words chains s → Represents words others t
         → (home : ℕ) → home < 4096 → chains home ≡ others home }
-    ensures authority { (words : List ℕ) (chains : ℕ → List ℕ) (s : StoreState) (k : ℕ) → 0 < k
+    ensures authority { (words : List ℕ) (chains : ℕ → List ℕ) (s : StoreState) (k : ℕ)
+        → 0 < k
         → Represents words chains s → authority words s.logs chains k ≡ authority_in s k }
-    ensures holder { (words : List ℕ) (chains : ℕ → List ℕ) (s : StoreState) (k : ℕ) → 0 < k
-        → Represents words chains s → holder words s.logs chains k ≡ holder_in s k }
-    ensures held { (words : List ℕ) (chains : ℕ → List ℕ) (s : StoreState) (k : ℕ) → 0 < k
-        → Represents words chains s → held words s.logs chains k ≡ holds s k }
+    ensures holder { (words : List ℕ) (chains : ℕ → List ℕ) (s : StoreState) (k : ℕ)
+        → 0 < k → Represents words chains s → holder words s.logs chains k ≡ holder_in s k }
+    ensures held { (words : List ℕ) (chains : ℕ → List ℕ) (s : StoreState) (k : ℕ)
+        → 0 < k → Represents words chains s → held words s.logs chains k ≡ holds s k }
     ensures merged { (words : List ℕ) (chains : ℕ → List ℕ) (s : StoreState) (n : ℕ)
         → Represents words chains s → IsLane n → s.marks n ≤ (s.gates n).len }
 {}
@@ -51,13 +52,13 @@ pub fn meaning()
 /// word of its directory that named nothing, and then names a segment that the lane holds and hasn't named. So it does
 /// where any word is stored where it stands already.
 pub fn flows()
-    ensures segment { (words : List ℕ) (chains : ℕ → List ℕ) (s : StoreState) (n g o word : ℕ)
-        → Represents words chains s → IsLane n → s.holders g ≡ n
+    ensures segment { (words : List ℕ) (chains : ℕ → List ℕ) (s : StoreState)
+        (n g o word : ℕ) → Represents words chains s → IsLane n → s.holders g ≡ n
         → ((q : ℕ) → q < 256 → directory words n q ≡ g + 1
         → (s.gates n).len ≤ q * 1024 + o % 1024)
         → Represents (slice_set words (place_in (g + 1) o) word) chains s }
-    ensures directory { (words : List ℕ) (chains : ℕ → List ℕ) (s : StoreState) (n q g : ℕ)
-        → Represents words chains s → IsLane n → q < 256 → s.holders g ≡ n
+    ensures directory { (words : List ℕ) (chains : ℕ → List ℕ) (s : StoreState)
+        (n q g : ℕ) → Represents words chains s → IsLane n → q < 256 → s.holders g ≡ n
         → directory words n q ≡ 0 → ((r : ℕ) → r < 256 → directory words n r ≢ g + 1)
         → Represents (slice_set words (directory_at n q) (g + 1)) chains s }
     ensures again { (words : List ℕ) (chains : ℕ → List ℕ) (s : StoreState) (at word : ℕ)
@@ -124,8 +125,8 @@ pub fn places()
     ensures free { (words : List ℕ) (chains : ℕ → List ℕ) (s : StoreState) (k b i new : ℕ)
         → Represents words chains s → IsPlaceOf chains k b i → bucket words b (i + 1) ≡ 0
         → Represents (slice_set words (bucket_at b (i + 4)) new) chains s }
-    ensures place { (words : List ℕ) (chains : ℕ → List ℕ) (s : StoreState) (k b i new : ℕ)
-        → Represents words chains s → 0 < k → IsPlaceOf chains k b i
+    ensures place { (words : List ℕ) (chains : ℕ → List ℕ) (s : StoreState)
+        (k b i new : ℕ) → Represents words chains s → 0 < k → IsPlaceOf chains k b i
         → bucket words b (i + 1) ≡ k
         → Represents (slice_set words (bucket_at b (i + 4)) new) chains
         (indexed s k (Some new)) }
@@ -157,8 +158,8 @@ pub fn buckets()
     ensures key { (words : List ℕ) (chains : ℕ → List ℕ) (s : StoreState) (c new : ℕ)
         → Represents words chains s → 0 < s.takers c
         → Represents (slice_set words (bucket_at c 1) new) chains s }
-    ensures link { (words : List ℕ) (chains : ℕ → List ℕ) (s : StoreState) (k last new : ℕ)
-        → Represents words chains s → 0 < k
+    ensures link { (words : List ℕ) (chains : ℕ → List ℕ) (s : StoreState)
+        (k last new : ℕ) → Represents words chains s → 0 < k
         → IsLinking words chains s.index s.takers k last new
         → Represents (slice_set words (bucket_at last 7) new)
         (with_bucket chains (home_of k) new)

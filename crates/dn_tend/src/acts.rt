@@ -377,7 +377,8 @@ impl TendAct {
         ensures room { has_room_next result.next ≡ true → has_room_act self ≡ true }
         ensures released { (result.next ≡ ends TaskAnswer.Released) ↔ IsReleased word self }
         ensures not_leaving { (look : ℕ) →
-            (result.next ≡ ends (TaskAnswer.NotLeaving look)) ↔ IsNotLeaving lane look word self }
+            (result.next ≡ ends (TaskAnswer.NotLeaving look))
+            ↔ IsNotLeaving lane look word self }
         ensures trimmed { (mark : ℕ) →
             (result.next ≡ ends (TaskAnswer.Trimmed mark)) ↔ IsTrimmed mark word self }
         ensures shared { (cell : ℕ) →

@@ -36,12 +36,13 @@ pub fn answers()
     ensures fits { (n : ℕ) (m : Merging) (p : Pool) (word : ℕ) (now : List ℕ) → IsWhole p
         → IsLane n → (store_in p).pool ≤ 8192 → IsMergerAt n m p
         → Performs (merge_next m) word p.words now → Meets word m.place }
-    ensures idle { (n : ℕ) (m : Merging) (p : Pool) (word : ℕ) (now : List ℕ) (gate mark : ℕ)
+    ensures idle { (n : ℕ) (m : Merging) (p : Pool) (word : ℕ) (now : List ℕ)
+        (gate mark : ℕ)
         → IsWhole p → IsLane n → IsMergerAt n m p → Performs (merge_next m) word p.words now
         → IsIdle gate mark word m.place
         → ((store_in p).marks n ≡ mark) × ((gate_of gate).len ≡ mark) }
-    ensures full { (m : Merging) (p : Pool) (word : ℕ) (now : List ℕ) (counter : ℕ) → IsWhole p
-        → Performs (merge_next m) word p.words now → IsFull counter word m.place
+    ensures full { (m : Merging) (p : Pool) (word : ℕ) (now : List ℕ) (counter : ℕ)
+        → IsWhole p → Performs (merge_next m) word p.words now → IsFull counter word m.place
         → (counter ≡ (store_in p).bucket_count) × (4096 ≤ counter) }
 {}
 
@@ -53,11 +54,12 @@ pub fn room()
         → asking (with_at mergers n m) + asks (mergers n) ≡ asking mergers + asks m }
     ensures steps { (n : ℕ) (m : Merging) (p : Pool) (word : ℕ) (now : List ℕ)
         (mergers : ℕ → Option Merging) (s : MergerStepped n m p word now)
-        → IsLane n → mergers n ≡ Some m → (store_in p).bucket_count + asking mergers ≤ 4159
-        → (store_in s.left.q).bucket_count
+        → IsLane n → mergers n ≡ Some m
+        → (store_in p).bucket_count + asking mergers ≤ 4159 → (store_in s.left.q).bucket_count
         + asking (with_at mergers n (Some (merge_after m word))) ≤ 4159 }
     ensures fails { (n : ℕ) (m : Merging) (p : Pool) (now : List ℕ)
         (mergers : ℕ → Option Merging) (s : IsMergerStep n m p now)
-        → IsLane n → mergers n ≡ Some m → (store_in p).bucket_count + asking mergers ≤ 4159
+        → IsLane n → mergers n ≡ Some m
+        → (store_in p).bucket_count + asking mergers ≤ 4159
         → (store_in s.q).bucket_count + asking (with_at mergers n (Some (started n))) ≤ 4159 }
 {}

@@ -60,8 +60,8 @@ pub fn changes()
         → Shows view (call_of w view.session) → route ≤ 63 → IsSound (loaded w view route) }
     ensures unloaded { (w : WaitingState) (session : ℕ) → IsSound w → IsSession session
         → IsLoading (call_of w session) → IsSound (unloaded w session) }
-    ensures answered { (w : WaitingState) (lane : ℕ) (end : AttemptEnd) → IsSound w → IsLane lane
-        → IsSound (answered w lane end) }
+    ensures answered { (w : WaitingState) (lane : ℕ) (end : AttemptEnd) → IsSound w
+        → IsLane lane → IsSound (answered w lane end) }
     ensures taken_up { (w : WaitingState) (lane : ℕ) → IsSound w → IsLane lane
         → (at_lane w lane).begun ≡ None → IsSound (taken_up w lane) }
     ensures tasked { (w : WaitingState) (lane : ℕ) (task : Task) → IsSound w → IsLane lane

@@ -29,8 +29,8 @@ pub fn finding()
     ensures loads { (p : Pool) (w : Walking) (word : ℕ) (now : List ℕ)
         → KnowsFind p.words p.chains w.key w.place
         → Performs (walk_next w) word p.words now → now ≡ p.words }
-    ensures steps { (p : Pool) (w : Walking) (word : ℕ) (now : List ℕ) → IsWhole p → 0 < w.key
-        → KnowsFind p.words p.chains w.key w.place
+    ensures steps { (p : Pool) (w : Walking) (word : ℕ) (now : List ℕ) → IsWhole p
+        → 0 < w.key → KnowsFind p.words p.chains w.key w.place
         → Performs (walk_next w) word p.words now
         → KnowsFound p.words p.chains (store_in p).index w.key (walk_step w word) }
     ensures lasts { (p q : Pool) (k : ℕ) (place : WalkPlace) → IsPathKept k p q
@@ -41,9 +41,10 @@ pub fn finding()
 /// words represent a store, with other mergers' chains as they were and all other keys where they stood. It ends when
 /// the index gives what is wanted, or where no overflow bucket is left.
 pub fn changing()
-    ensures begins { (n k : ℕ) (want : Option ℕ) (errand : ErrandOf) (p : Pool) → Wants want errand
-        → KnowsWalk n k want p (begun k (home_of k) errand).place }
-    ensures steps { (n : ℕ) (want : Option ℕ) (p : Pool) (w : Walking) (word : ℕ) (now : List ℕ)
+    ensures begins { (n k : ℕ) (want : Option ℕ) (errand : ErrandOf) (p : Pool)
+        → Wants want errand → KnowsWalk n k want p (begun k (home_of k) errand).place }
+    ensures steps { (n : ℕ) (want : Option ℕ) (p : Pool) (w : Walking) (word : ℕ)
+        (now : List ℕ)
         → IsWhole p → IsLane n → 0 < w.key → (store_in p).bucket_count + 1 < 2 ^ 64
         → KnowsWalk n w.key want p w.place → Performs (walk_next w) word p.words now
         → IsWalked n want p w word now }
@@ -57,15 +58,16 @@ pub fn changing()
 /// gave before, and the rest of the store stays.
 pub fn alone()
     ensures given { (words : List ℕ) (chains : ℕ → List ℕ) (s : StoreState) (k : ℕ)
-        → Represents words chains s → 0 < k → index words (chains (home_of k)) k ≡ s.index k }
+        → Represents words chains s → 0 < k
+        → index words (chains (home_of k)) k ≡ s.index k }
     ensures find { (words : List ℕ) (chains : ℕ → List ℕ) (s : StoreState) (k : ℕ)
         → Represents words chains s → 0 < k
-        → Alone (λ now. now ≡ words) (λ now answer. answer ≡ told (s.index k)) (find_program k)
-        words }
-    ensures again { (at : Ref) → at.lane < 2 ^ 8 → at.offset < 2 ^ 24 → at.lane + at.offset ≢ 0
-        → told (Some (ref_word at)) ≡ WalkTurn.Found at }
-    ensures set { (words : List ℕ) (chains : ℕ → List ℕ) (s : StoreState) (k : ℕ) (at : Ref)
-        → Represents words chains s → 0 < k
+        → Alone (λ now. now ≡ words) (λ now answer. answer ≡ told (s.index k))
+        (find_program k) words }
+    ensures again { (at : Ref) → at.lane < 2 ^ 8 → at.offset < 2 ^ 24
+        → at.lane + at.offset ≢ 0 → told (Some (ref_word at)) ≡ WalkTurn.Found at }
+    ensures set { (words : List ℕ) (chains : ℕ → List ℕ) (s : StoreState) (k : ℕ)
+        (at : Ref) → Represents words chains s → 0 < k
         → Alone (λ now. IsBetween s k (Some (ref_word at)) now)
         (λ now answer. SetEnds words s k at now answer) (set_program k at) words }
     ensures remove { (words : List ℕ) (chains : ℕ → List ℕ) (s : StoreState) (k : ℕ)

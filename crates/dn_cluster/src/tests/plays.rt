@@ -93,7 +93,8 @@ fn runs(cluster: &Cluster, lane: u8) -> bool
 /// Whether a lane runs and has a call of this session.
 fn is_calling(cluster: &Cluster, lane: u8, session: u32) -> bool
     requires { IsMade cluster.now lane }
-    ensures { result ≡ false → (l : LaneState) → lane_in (numbered cluster.now.nodes lane) ≡ Some l
+    ensures { result ≡ false → (l : LaneState)
+        → lane_in (numbered cluster.now.nodes lane) ≡ Some l
         → IsOfSession session l.asked → ⊥ }
 {
     if cluster.is_stopped(lane) {

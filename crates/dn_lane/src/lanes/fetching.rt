@@ -99,7 +99,8 @@ impl Lane {
             → self.new ≡ (looked self.old k word (deed_of word)).lane }
         ensures same { SameLane self.old self.new }
         ensures works { result ≡ Turn.More → IsSome self.new.work }
-        ensures ended { (answer : Answer) → result ≡ Turn.Done answer → self.new.work ≡ None }
+        ensures ended { (answer : Answer) → result ≡ Turn.Done answer
+            → self.new.work ≡ None }
         ensures falls { (k : Work) → self.old.work ≡ Some k → result ≡ Turn.More
             → actions_left self.new < actions_left self.old }
         ensures stamp { MadeFits result }
@@ -138,7 +139,8 @@ impl Lane {
             → self.new ≡ (locates self.old k floor (Some offset)).lane }
         ensures same { SameLane self.old self.new }
         ensures works { result ≡ Turn.More → IsSome self.new.work }
-        ensures ended { (answer : Answer) → result ≡ Turn.Done answer → self.new.work ≡ None }
+        ensures ended { (answer : Answer) → result ≡ Turn.Done answer
+            → self.new.work ≡ None }
         ensures falls { (k : Work) → self.old.work ≡ Some k
             → actions_left self.new < actions_left self.old }
     {
@@ -170,7 +172,8 @@ impl Lane {
             (load_turn self.old.log self.old.fetch word)).lane }
         ensures same { SameLane self.old self.new }
         ensures works { result ≡ Turn.More → IsSome self.new.work }
-        ensures ended { (answer : Answer) → result ≡ Turn.Done answer → self.new.work ≡ None }
+        ensures ended { (answer : Answer) → result ≡ Turn.Done answer
+            → self.new.work ≡ None }
         ensures falls { (k : Work) → self.old.work ≡ Some k → result ≡ Turn.More
             → actions_left self.new < actions_left self.old }
         ensures stamp { MadeFits result }

@@ -58,7 +58,8 @@ fn found(work: Work, located: Located, to: Position) -> Answer
 impl Lane {
     /// The gate was loaded.
     pub(super) fn open(&mut self, floor: u32, located: Located, word: u64) -> Turn
-        requires work { (k : Work) → self.old.work ≡ Some k → k.place ≡ Place.Gate floor located }
+        requires work { (k : Work) → self.old.work ≡ Some k
+            → k.place ≡ Place.Gate floor located }
         requires some { IsSome self.old.work }
         requires waits { self.old.staged ≡ [] }
         ensures turn { (k : Work) → self.old.work ≡ Some k
@@ -67,7 +68,8 @@ impl Lane {
             → self.new ≡ (gated self.old k floor located word).lane }
         ensures same { SameLane self.old self.new }
         ensures works { result ≡ Turn.More → IsSome self.new.work }
-        ensures ended { (answer : Answer) → result ≡ Turn.Done answer → self.new.work ≡ None }
+        ensures ended { (answer : Answer) → result ≡ Turn.Done answer
+            → self.new.work ≡ None }
         ensures falls { (k : Work) → self.old.work ≡ Some k → result ≡ Turn.More
             → actions_left self.new < actions_left self.old }
         ensures stamp { MadeFits result }
@@ -113,7 +115,8 @@ impl Lane {
             → self.new ≡ (quietly self.old k located gate quiet raised).lane }
         ensures same { SameLane self.old self.new }
         ensures works { result ≡ Turn.More → IsSome self.new.work }
-        ensures ended { (answer : Answer) → result ≡ Turn.Done answer → self.new.work ≡ None }
+        ensures ended { (answer : Answer) → result ≡ Turn.Done answer
+            → self.new.work ≡ None }
         ensures falls { (k : Work) → self.old.work ≡ Some k → result ≡ Turn.More
             → actions_left self.new < 7 + record_words k.call }
         ensures stamp { MadeFits result }
@@ -143,7 +146,8 @@ impl Lane {
             → self.new ≡ (raised self.old k located gate to word).lane }
         ensures same { SameLane self.old self.new }
         ensures works { result ≡ Turn.More → IsSome self.new.work }
-        ensures ended { (answer : Answer) → result ≡ Turn.Done answer → self.new.work ≡ None }
+        ensures ended { (answer : Answer) → result ≡ Turn.Done answer
+            → self.new.work ≡ None }
         ensures falls { (k : Work) → self.old.work ≡ Some k → result ≡ Turn.More
             → actions_left self.new < actions_left self.old }
         ensures stamp { MadeFits result }
@@ -169,7 +173,8 @@ impl Lane {
             → self.new ≡ (writing self.old k located gate raised).lane }
         ensures same { SameLane self.old self.new }
         ensures works { result ≡ Turn.More → IsSome self.new.work }
-        ensures ended { (answer : Answer) → result ≡ Turn.Done answer → self.new.work ≡ None }
+        ensures ended { (answer : Answer) → result ≡ Turn.Done answer
+            → self.new.work ≡ None }
         ensures falls { (k : Work) → self.old.work ≡ Some k → result ≡ Turn.More
             → actions_left self.new < 7 + record_words k.call }
         ensures stamp { MadeFits result }

@@ -65,7 +65,8 @@ impl Lane {
             → self.new ≡ (rooms self.old k located gate to).lane }
         ensures same { SameLane self.old self.new }
         ensures works { result ≡ Turn.More → IsSome self.new.work }
-        ensures ended { (answer : Answer) → result ≡ Turn.Done answer → self.new.work ≡ None }
+        ensures ended { (answer : Answer) → result ≡ Turn.Done answer
+            → self.new.work ≡ None }
         ensures falls { (k : Work) → self.old.work ≡ Some k → result ≡ Turn.More
             → actions_left self.new < 7 + record_words k.call }
         ensures stamp { MadeFits result }
@@ -106,7 +107,8 @@ impl Lane {
             → self.new ≡ (stages (with_spare self.old claimed) k located gate to).lane }
         ensures same { SameLane self.old self.new }
         ensures works { result ≡ Turn.More → IsSome self.new.work }
-        ensures ended { (answer : Answer) → result ≡ Turn.Done answer → self.new.work ≡ None }
+        ensures ended { (answer : Answer) → result ≡ Turn.Done answer
+            → self.new.work ≡ None }
         ensures left { (k : Work) → self.old.work ≡ Some k
             → actions_left self.new ≤ 3 + record_words k.call }
     {
@@ -146,7 +148,8 @@ impl Lane {
             (claim_turn claim word)).lane }
         ensures same { SameLane self.old self.new }
         ensures works { result ≡ Turn.More → IsSome self.new.work }
-        ensures ended { (answer : Answer) → result ≡ Turn.Done answer → self.new.work ≡ None }
+        ensures ended { (answer : Answer) → result ≡ Turn.Done answer
+            → self.new.work ≡ None }
         ensures falls { (k : Work) → self.old.work ≡ Some k → result ≡ Turn.More
             → actions_left self.new < actions_left self.old }
         ensures stamp { MadeFits result }
@@ -166,7 +169,8 @@ impl Lane {
 
     /// The gate of a put or delete was exchanged.
     pub(super) fn seal(&mut self, located: Located, gate: u64, to: Position, word: u64) -> Turn
-        requires work { (k : Work) → self.old.work ≡ Some k → k.place ≡ Place.Seal located gate to }
+        requires work { (k : Work) → self.old.work ≡ Some k
+            → k.place ≡ Place.Seal located gate to }
         requires some { IsSome self.old.work }
         requires stamp { to.stamp < 2 ^ 31 }
         requires waits { self.old.staged ≡ [] }
@@ -176,7 +180,8 @@ impl Lane {
             → self.new ≡ (sealed self.old k located gate to word).lane }
         ensures same { SameLane self.old self.new }
         ensures works { result ≡ Turn.More → IsSome self.new.work }
-        ensures ended { (answer : Answer) → result ≡ Turn.Done answer → self.new.work ≡ None }
+        ensures ended { (answer : Answer) → result ≡ Turn.Done answer
+            → self.new.work ≡ None }
         ensures falls { (k : Work) → self.old.work ≡ Some k → result ≡ Turn.More
             → actions_left self.new < actions_left self.old }
         ensures stamp { MadeFits result }

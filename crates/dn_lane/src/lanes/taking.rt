@@ -96,7 +96,8 @@ impl Lane {
         ensures lane { self.new ≡ (taken_of self.old word).lane }
         ensures same { SameLane self.old self.new }
         ensures works { result ≡ Turn.More → IsSome self.new.work }
-        ensures ended { (answer : Answer) → result ≡ Turn.Done answer → self.new.work ≡ None }
+        ensures ended { (answer : Answer) → result ≡ Turn.Done answer
+            → self.new.work ≡ None }
         ensures falls { result ≡ Turn.More → actions_left self.new < actions_left self.old }
         ensures stamp { MadeFits result }
         ensures made { (k : Work) (receipt : Receipt) (way : Way) → self.old.work ≡ Some k
@@ -128,7 +129,8 @@ impl Lane {
         ensures lane { self.new ≡ (taken_of self.old word).lane }
         ensures same { SameLane self.old self.new }
         ensures works { result ≡ Turn.More → IsSome self.new.work }
-        ensures ended { (answer : Answer) → result ≡ Turn.Done answer → self.new.work ≡ None }
+        ensures ended { (answer : Answer) → result ≡ Turn.Done answer
+            → self.new.work ≡ None }
         ensures falls { result ≡ Turn.More → actions_left self.new < actions_left self.old }
         ensures stamp { MadeFits result }
     {
@@ -162,7 +164,8 @@ impl Lane {
             → self.new ≡ (goes self.old k place).lane }
         ensures same { SameLane self.old self.new }
         ensures works { result ≡ Turn.More → IsSome self.new.work }
-        ensures ended { (answer : Answer) → result ≡ Turn.Done answer → self.new.work ≡ None }
+        ensures ended { (answer : Answer) → result ≡ Turn.Done answer
+            → self.new.work ≡ None }
         ensures left { (k : Work) → self.old.work ≡ Some k
             → actions_left self.new ≡ left_at self.old k place }
     {
@@ -181,7 +184,8 @@ impl Lane {
         ensures lane { self.new ≡ record self.old { work = None } }
         ensures same { SameLane self.old self.new }
         ensures works { result ≡ Turn.More → IsSome self.new.work }
-        ensures ended { (answer : Answer) → result ≡ Turn.Done answer → self.new.work ≡ None }
+        ensures ended { (answer : Answer) → result ≡ Turn.Done answer
+            → self.new.work ≡ None }
     {
         self.work = None;
         Turn::Done(answer)
@@ -194,7 +198,8 @@ impl Lane {
         ensures lane { self.new ≡ record self.old { work = None; barred = Some word } }
         ensures same { SameLane self.old self.new }
         ensures works { result ≡ Turn.More → IsSome self.new.work }
-        ensures ended { (answer : Answer) → result ≡ Turn.Done answer → self.new.work ≡ None }
+        ensures ended { (answer : Answer) → result ≡ Turn.Done answer
+            → self.new.work ≡ None }
     {
         self.work = None;
         self.barred = Some(word);

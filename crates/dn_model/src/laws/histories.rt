@@ -13,16 +13,16 @@ ghost use Rattle.dn_model.specs.Register.{is_write, written_by, StandsBefore, Is
 /// a map that has what stood before them, and so from the empty map where that was nothing.
 pub fn legal_in_order()
     ensures from { (start : ℕ → Option (List ℕ)) (map : Bytes) (rs hs : List Made)
-        → ((k : ℕ) → get map k ≡ start k) → IsLegalByStampFrom start rs → IsPermutation rs hs
-        → IsInOrder hs → IsLegalFrom map hs }
-    ensures empty { (rs hs : List Made) → IsLegalByStamp rs → IsPermutation rs hs → IsInOrder hs
-        → IsLegal hs }
+        → ((k : ℕ) → get map k ≡ start k) → IsLegalByStampFrom start rs
+        → IsPermutation rs hs → IsInOrder hs → IsLegalFrom map hs }
+    ensures empty { (rs hs : List Made) → IsLegalByStamp rs → IsPermutation rs hs
+        → IsInOrder hs → IsLegal hs }
 {}
 
 /// The same of a register, whose history leaves what is held at each key.
 pub fn register_in_order()
-    ensures legal_from { (start held : ℕ → Option (List ℕ)) (map : Bytes) (bound : ℕ → ℕ)
-        (rs hs : List Made) → ((k : ℕ) → get map k ≡ start k)
+    ensures legal_from { (start held : ℕ → Option (List ℕ)) (map : Bytes)
+        (bound : ℕ → ℕ) (rs hs : List Made) → ((k : ℕ) → get map k ≡ start k)
         → IsRegisterFrom start held bound rs → IsPermutation rs hs → IsInOrder hs
         → IsLegalFrom map hs }
     ensures left_from { (start held : ℕ → Option (List ℕ)) (map : Bytes) (bound : ℕ → ℕ)
@@ -38,15 +38,15 @@ pub fn register_in_order()
 
 /// A register stays one where nothing that is held changes and bounds rise, where a read is added, and where a write is.
 pub fn register_steps()
-    ensures same { (start held now : ℕ → Option (List ℕ)) (bound raised : ℕ → ℕ) (rs : List Made)
-        → IsRegisterFrom start held bound rs
+    ensures same { (start held now : ℕ → Option (List ℕ)) (bound raised : ℕ → ℕ)
+        (rs : List Made) → IsRegisterFrom start held bound rs
         → ((k : ℕ) → now k ≡ held k) → ((k : ℕ) → bound k ≤ raised k)
         → IsRegisterFrom start now raised rs }
-    ensures read { (start held : ℕ → Option (List ℕ)) (bound : ℕ → ℕ) (rs : List Made) (n : Made)
-        → IsRegisterFrom start held bound rs
-        → IsReadFrom start bound rs n → IsRegisterFrom start held bound (rs ++ n ∷ []) }
-    ensures write { (start held now : ℕ → Option (List ℕ)) (bound raised : ℕ → ℕ) (rs : List Made)
+    ensures read { (start held : ℕ → Option (List ℕ)) (bound : ℕ → ℕ) (rs : List Made)
         (n : Made) → IsRegisterFrom start held bound rs
+        → IsReadFrom start bound rs n → IsRegisterFrom start held bound (rs ++ n ∷ []) }
+    ensures write { (start held now : ℕ → Option (List ℕ)) (bound raised : ℕ → ℕ)
+        (rs : List Made) (n : Made) → IsRegisterFrom start held bound rs
         → IsWriteFrom start bound rs n → raised (key_of n.call) ≡ n.position.stamp
         → ((k : ℕ) → bound k ≤ raised k)
         → now (key_of n.call) ≡ written_by n.call
@@ -58,8 +58,10 @@ pub fn register_steps()
 /// held; receipts of its stamp or of later ones don't change it; and it is what the history before the write leaves,
 /// where the write is met there once.
 pub fn stood_before()
-    ensures held { (start held : ℕ → Option (List ℕ)) (bound : ℕ → ℕ) (rs : List Made) (k t : ℕ)
-        → IsRegisterFrom start held bound rs → bound k < t → StandsBefore start rs k t (held k) }
+    ensures held { (start held : ℕ → Option (List ℕ)) (bound : ℕ → ℕ) (rs : List Made)
+        (k t : ℕ)
+        → IsRegisterFrom start held bound rs → bound k < t
+        → StandsBefore start rs k t (held k) }
     ensures stays { (start : ℕ → Option (List ℕ)) (rs : List Made) (n : Made) (k t : ℕ)
         (value : Option (List ℕ)) → t ≤ n.position.stamp
         → StandsBefore start rs k t value → StandsBefore start (rs ++ n ∷ []) k t value }
