@@ -43,7 +43,15 @@ full_text counter segments = codes "full " ++ (decimal counter ++ (codes " " ++ 
 abbrev pub worn_text : ℕ → List ℕ
 worn_text stamp = codes "worn " ++ (decimal stamp ++ codes "\n")
 
--- what became of an attempt
+-- a call that a session doesn't start, and why
+abbrev pub session_text : ℕ → List ℕ → List ℕ
+session_text session cause = codes "c" ++ (decimal session ++ cause)
+
+-- a lane behind a label
+abbrev pub lane_event_text : List ℕ → ℕ → List ℕ
+lane_event_text label lane = label ++ (decimal lane ++ codes "\n")
+
+-- what became of an event
 abbrev pub event_text : EventLine → List ℕ
 event_text (event.NotOwner session number look cell) = head_text session number ++ not_owner_text look cell
 event_text (event.Fenced session number word) = head_text session number ++ fenced_text word
@@ -52,3 +60,8 @@ event_text (event.Full session number counter segments) = head_text session numb
 event_text (event.Worn session number stamp) = head_text session number ++ worn_text stamp
 event_text (event.Given session number) = head_text session number ++ codes "given\n"
 event_text (event.Unanswered session number) = head_text session number ++ codes "unanswered\n"
+event_text (event.Busy session) = session_text session (codes " busy\n")
+event_text (event.Closed session) = session_text session (codes " closed\n")
+event_text (event.Lane lane) = lane_event_text (codes "lane ") lane
+event_text event.LanesFull = codes "lanes full\n"
+event_text (event.NoLane lane) = lane_event_text (codes "nolane ") lane

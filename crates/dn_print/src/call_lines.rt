@@ -1,14 +1,15 @@
-//! What became of a call.
+//! What became of a line of the script.
 
 ghost use Rattle.std.specs.Prelude.{◌≡◌, ◌≤◌, ◌++◌, length, OnOk, OnErr};
 ghost use Rattle.dn_print.specs.Front.{KeepsFront};
-ghost use Rattle.dn_print.specs.CallLine.{head_text, end_text, cell_text, not_owner_text, fenced_text, again_text, full_text, worn_text, made_text, event_text};
+ghost use Rattle.dn_print.specs.CallLine.{head_text, end_text, cell_text, not_owner_text, fenced_text, again_text, full_text, worn_text, session_text, lane_event_text, made_text, event_text};
 
 use crate::pieces::{byte, bytes, number as digits, position as place, reply, whole, word};
 use dn_hist::Reply;
 use dn_word::{OutOfMemory, Position};
 
-/// What became of an attempt of a call, by the call's session and its number there. Words are words of the pool.
+/// What became of an event. An attempt of a call is told by the call's session and its number there. Words are words of
+/// the pool.
 #[derive(Clone, Copy, Debug, PartialEq, Eq, Drop)]
 pub enum EventLine {
     /// The lane isn't the key's: the deed that it read, and the cell's word where it read one.
@@ -54,6 +55,24 @@ pub enum EventLine {
     Unanswered {
         session: u32,
         number: u32,
+    },
+    /// The session has a call already, and starts none.
+    Busy {
+        session: u32,
+    },
+    /// The session is closed, and starts no call.
+    Closed {
+        session: u32,
+    },
+    /// A lane was added, with this number.
+    Lane {
+        lane: u8,
+    },
+    /// There may be no more lanes.
+    LanesFull,
+    /// No lane with this number was made.
+    NoLane {
+        lane: u8,
     },
 }
 
@@ -208,9 +227,33 @@ fn worn(out: &mut Vec<u8>, start: usize, stamp: u32) -> Result<(), OutOfMemory>
     byte(out, start, b'\n')
 }
 
-/// Appends the line of an attempt.
+/// Appends the line of a call that a session doesn't start.
 #[tactic(auto, using(crate::proofs::FrontLemmas::keeps_on))]
-fn attempt_line(out: &mut Vec<u8>, start: usize, line: &EventLine) -> Result<(), OutOfMemory>
+fn refused(out: &mut Vec<u8>, start: usize, session: u32, cause: &[u8]) -> Result<(), OutOfMemory>
+    requires { start ≤ length out.old.items }
+    ensures ok { OnOk result (out.new.items ≡ out.old.items ++ session_text session cause.now) }
+    ensures front { KeepsFront start out.old.items out.new.items }
+{
+    byte(out, start, b'c')?;
+    digits(out, start, session as u64)?;
+    bytes(out, start, cause)
+}
+
+/// Appends a label, the number of a lane and the line's end.
+#[tactic(auto, using(crate::proofs::FrontLemmas::keeps_on))]
+fn lane_at(out: &mut Vec<u8>, start: usize, label: &[u8], lane: u8) -> Result<(), OutOfMemory>
+    requires { start ≤ length out.old.items }
+    ensures ok { OnOk result (out.new.items ≡ out.old.items ++ lane_event_text label.now lane) }
+    ensures front { KeepsFront start out.old.items out.new.items }
+{
+    bytes(out, start, label)?;
+    digits(out, start, lane as u64)?;
+    byte(out, start, b'\n')
+}
+
+/// Appends the line of an event.
+#[tactic(auto, using(crate::proofs::FrontLemmas::keeps_on))]
+fn event_line(out: &mut Vec<u8>, start: usize, line: &EventLine) -> Result<(), OutOfMemory>
     requires { start ≤ length out.old.items }
     ensures ok { OnOk result (out.new.items ≡ out.old.items ++ event_text line.now) }
     ensures front { KeepsFront start out.old.items out.new.items }
@@ -267,16 +310,21 @@ fn attempt_line(out: &mut Vec<u8>, start: usize, line: &EventLine) -> Result<(),
             head(out, start, *session, *number)?;
             bytes(out, start, b"unanswered\n")
         }
+        EventLine::Busy { session } => refused(out, start, *session, b" busy\n"),
+        EventLine::Closed { session } => refused(out, start, *session, b" closed\n"),
+        EventLine::Lane { lane } => lane_at(out, start, b"lane ", *lane),
+        EventLine::LanesFull => bytes(out, start, b"lanes full\n"),
+        EventLine::NoLane { lane } => lane_at(out, start, b"nolane ", *lane),
     }
 }
 
-/// Appends the line of an attempt. Where memory is wanting, `out` stays.
+/// Appends the line of an event. Where memory is wanting, `out` stays.
 #[tactic(auto, using(crate::proofs::FrontLemmas::taken_back))]
 pub fn event(out: &mut Vec<u8>, line: &EventLine) -> Result<(), OutOfMemory>
     ensures ok { OnOk result (out.new.items ≡ out.old.items ++ event_text line.now) }
     ensures same { OnErr result (out.new.items ≡ out.old.items) }
 {
     let start = out.len();
-    let made = attempt_line(out, start, line);
+    let made = event_line(out, start, line);
     whole(out, start, made)
 }

@@ -111,7 +111,13 @@ pub fn lane_line(
     mark: u64,
 ) -> Result<(), OutOfMemory>
     ensures ok { OnOk result (out.new.items ≡ out.old.items
-        ++ lane_text (record { lane = lane; state = state; stamp = stamp; len = len; mark = mark })) }
+        ++ lane_text (record {
+          lane = lane;
+          state = state;
+          stamp = stamp;
+          len = len;
+          mark = mark;
+        })) }
     ensures same { OnErr result (out.new.items ≡ out.old.items) }
 {
     let start = out.len();

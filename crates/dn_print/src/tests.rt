@@ -101,6 +101,23 @@ fn attempts_that_were_refused(rt: HostRuntime) -> Result<(), Fail> {
     Ok(())
 }
 
+#[test]
+fn lines_of_sessions_and_lanes(rt: HostRuntime) -> Result<(), Fail> {
+    let mut out = Vec::new(rt.alloc());
+    for line in [
+        EventLine::Busy { session: 1000 },
+        EventLine::Closed { session: 2 },
+        EventLine::Lane { lane: 63 },
+        EventLine::LanesFull,
+        EventLine::NoLane { lane: 4 },
+    ] {
+        done(event(&mut out, &line))?;
+    }
+    let lines = "c1000 busy\nc2 closed\nlane 63\nlanes full\nnolane 4\n";
+    assert_eq!(rt; out.as_slice(), lines.as_bytes());
+    Ok(())
+}
+
 /// A receipt at one place.
 fn receipt(call: Call, reply: Reply) -> Receipt {
     Receipt {
