@@ -16,3 +16,4 @@ pub mod Dropping
 pub mod Granting
 pub mod Adding
 pub mod Opened
+pub mod Whole

@@ -69,6 +69,11 @@ ready_is segments n words now x y h = h.added ∙ ap (λ (w : World). after w (a
 ready_has : (segments n : ℕ) (words now : List ℕ) (x y : CrewState) → IsReady segments n words now x y → HasAdded segments now n (world_of now y [] [])
 ready_has segments n words now x y h = subst (λ (w : World). HasAdded segments now n w) (sym (ready_is segments n words now x y h)) (has_added segments now n h.most)
 
+pub added_segments : (segments n : ℕ) (x y : CrewState) → n ≤ 63 → IsNew segments x
+    → ((words : List ℕ) → world_of words y [] [] ≡ after (world_of words x [] []) (adds_for n)) → y.cluster.segments ≡ segments
+added_segments segments n x y most new added =
+    ap (λ (w : World). w.segments) (added [] ∙ ap (λ (w : World). after w (adds_for n)) (new_world segments [] x new)) ∙ (has_added segments [] n most).segments_are
+
 some_lanes : (n : ℕ) (live : List ℕ) → 1 ≤ n → live ≡ lanes_to n → live ≢ []
 some_lanes zero live le e none = omega (arith, le)
 some_lanes (suc n) live le e none = none_last (lanes_to n) (sym e ∙ none) where

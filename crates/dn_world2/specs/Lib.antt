@@ -6,3 +6,4 @@ pub mod Gives
 pub mod Happens
 pub mod Finishes
 pub mod Opening
+pub mod OpenFaults

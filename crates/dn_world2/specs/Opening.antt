@@ -1,4 +1,4 @@
-use Rattle.std.specs.Prelude.{◌≡◌, ◌≢◌, ◌<◌, ◌++◌, ◌∷◌, [], ℕ, zero, suc, List, Some, None, true, length, replicate, slice_set}
+use Rattle.std.specs.Prelude.{◌≡◌, ◌≢◌, ◌<◌, ◌++◌, ◌∷◌, [], ℕ, zero, suc, Bool, true, false, List, Some, None, length, replicate, slice_set}
 use Rattle.dn_word.specs.Format.{format_word}
 use Rattle.dn_word.specs.Regions.{format_at}
 use Rattle.dn_act.specs.Action.{words_after}
@@ -48,6 +48,11 @@ formatted segments words = words_after (format_of segments) words
 -- the pool has its format word
 abbrev pub HasFormat : ℕ → List ℕ → Type 0
 HasFormat segments words = word_at words format_at ≡ format_word (record { segments = segments; number = 1 })
+
+-- whether no access failed, by the count of those that did
+pub record IsWhole (whole : Bool) (old new : ℕ) : Type 0 where
+  pub yes_whole : whole ≡ true → new ≡ old
+  pub not_whole : whole ≡ false → old < new
 
 -- ---- what it leaves
 -- the lanes 1 to n

@@ -11,13 +11,21 @@ use Rattle.dn_waiting.specs.State.{at_lane}
 use Rattle.dn_waiting.specs.Turns.{next_at}
 use Rattle.dn_waiting.specs.declared.calls.Next.{Next}
 use Rattle.dn_outcomes.specs.State.{World, Done}
-use Rattle.dn_outcomes.specs.Steps.{tends, tries}
+use Rattle.dn_outcomes.specs.Steps.{begins, tends, tries}
 use Rattle.dn_world2.specs.State.{CrewState}
 use Rattle.dn_world2.specs.Comes.{CanBeWorld}
 
 -- What a lane takes up.
 
--- a lane that runs has nothing under way, and this is next
+-- a lane that runs has nothing under way
+pub record IsFree (words : List ℕ) (x : CrewState) (n : ℕ) : Type 0 where
+  pub can : CanBeWorld words x
+  pub number : IsLane n
+  pub lane : LaneState
+  pub runs : lane_in (numbered x.cluster.nodes n) ≡ Some lane
+  pub rests : is_working lane.mode ≡ false
+
+-- and this is next
 pub record Takes (words : List ℕ) (x : CrewState) (n : ℕ) (next : Next) : Type 0 where
   pub can : CanBeWorld words x
   pub number : IsLane n
@@ -30,6 +38,9 @@ pub record Takes (words : List ℕ) (x : CrewState) (n : ℕ) (next : Next) : Ty
 abbrev pub barred_by : Option LaneState → Option ℕ
 barred_by None = None
 barred_by (Some l) = l.base.known.barred
+
+abbrev pub begins_at : World → ℕ → Done
+begins_at w n = begins w n (barred_by (w.machine.lanes n)) (next_at (at_lane w.waiting n))
 
 abbrev pub tends_at : World → ℕ → Task → Done
 tends_at w n t = tends w n t (barred_by (w.machine.lanes n))

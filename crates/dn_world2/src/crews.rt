@@ -32,7 +32,7 @@ ghost use Rattle.dn_drain.specs.All.{AreDrained, AreMerged, IsLaneFault};
 ghost use Rattle.dn_drain.specs.Drained.{IsFullFault, CountsPool};
 ghost use Rattle.dn_drain.specs.Leaves.{LeavesLogs};
 ghost use Rattle.dn_world2.specs.Opening.{MonitorFails};
-ghost use Rattle.dn_world2.specs.Takes.{Takes, tends_at, tries_at, IsSessionOf};
+ghost use Rattle.dn_world2.specs.Takes.{IsFree, Takes, begins_at, tends_at, tries_at, IsSessionOf};
 
 mod openings;
 
@@ -49,6 +49,7 @@ use dn_outcomes::{CallAnswer, Event, Leaving, Outcome};
 use dn_tend::{Task, TaskAnswer};
 use dn_waiting::{AttemptEnd, Course, Next, OpenCall, Waiting};
 use dn_word::{OutOfMemory, slot_of};
+pub use openings::Opened;
 use std::marker::Model;
 
 /// A cluster, the calls and tasks that wait, and the lanes that are live, which rise.
@@ -287,6 +288,20 @@ impl Crew {
         if self.cluster.lane(lane).working() {
             return Ok(self.act(mem, lane));
         }
+        self.begin_next(mem, lane)
+    }
+
+    /// A lane with nothing under way takes up what waits there.
+    fn begin_next<M: Memory>(&mut self, mem: &mut M, lane: u8) -> Result<Came, OutOfMemory>
+        requires free { IsFree (M.words mem.old) self.old lane }
+        ensures came { IfOk result (λ came. OnDone came.outcome (Comes (M.words mem.old) self.old
+            (M.words mem.new) self.new came (λ w. begins_at w lane))) }
+        ensures count { IfOk result (λ came. CountsFault came.outcome (M.faults mem.old)
+            (M.faults mem.new)) }
+        ensures same { OnErr result (self.new ≡ self.old) }
+        ensures words { OnErr result (M.words mem.new ≡ M.words mem.old) }
+        ensures faults { OnErr result (M.faults mem.new ≡ M.faults mem.old) }
+    {
         match self.waiting.next_for(lane) {
             Next::Rest => Ok(bare(Outcome::Nothing)),
             Next::Tend(task) => self.tend(mem, lane, task),

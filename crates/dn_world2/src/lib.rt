@@ -8,10 +8,12 @@
 mod crews;
 mod finishes;
 mod leaving;
+mod open_faults;
 mod routes;
 #[cfg(test)]
 mod tests;
 mod worlds;
 
 pub use finishes::FinishFault;
+pub use open_faults::OpenFault;
 pub use worlds::{Standing, World};

@@ -1,6 +1,7 @@
-ghost use Rattle.std.specs.Prelude.{◌≡◌, ◌<◌, ◌^◌, ℕ, List, [], length, IfOk, IfErr, OnOk, OnErr};
-ghost use Rattle.dn_outcomes.specs.declared.events.Event.{Event as Given};
-ghost use Rattle.dn_world2.specs.Comes.{OnDone, CountsFault};
+ghost use Rattle.std.specs.Prelude.{◌≡◌, ◌<◌, ◌++◌, ◌^◌, ℕ, List, [], length, map, vec_len, vec_capacity, IfOk, IfErr, OnOk, OnErr};
+ghost use Rattle.dn_outcomes.specs.declared.events.Event.TheVariants as Given;
+ghost use Rattle.dn_world2.specs.Comes.{OnDone, CountsFault, joining};
+ghost use Rattle.dn_world2.specs.Inside.{stands_as};
 ghost use Rattle.dn_drain.specs.Acted.{LeavesActors};
 ghost use Rattle.dn_drain.specs.All.{AreDrained};
 ghost use Rattle.dn_drain.specs.Leaves.{LeavesLogs};
@@ -46,6 +47,23 @@ impl Model for World {
     ghost view = { world_in };
 }
 
+/// Keeps the receipt that came with an outcome, if one did, behind those that stand. There is room for it.
+fn keep(standing: &mut Vec<Standing>, came: Came) -> Outcome
+    requires { vec_len standing.old < vec_capacity standing.old }
+    ensures outcome { result ≡ came.outcome }
+    ensures kept { map stands_as standing.new.items
+        ≡ map stands_as standing.old.items ++ joining came.receipt }
+{
+    let Came { outcome, receipt } = came;
+    if let Some(receipt) = receipt {
+        standing.push_reserved(Standing {
+            receipt,
+            answered: true,
+        });
+    }
+    outcome
+}
+
 impl World {
     /// Does one event. What comes of it is `does` of `dn_outcomes`, a function of the world, the words of the pool and the
     /// event, and besides, for a takeover, of the live lanes' ring; the world is sound after it. The words are those that
@@ -67,15 +85,45 @@ impl World {
         ensures faults { OnErr result (M.faults mem.new ≡ M.faults mem.old) }
         ensures ended { self.new.ended ≡ self.old.ended }
     {
-        self.standing.reserve(1)?;
-        let Came { outcome, receipt } = self.crew.event(mem, event)?;
-        if let Some(receipt) = receipt {
-            self.standing.push_reserved(Standing {
-                receipt,
-                answered: true,
-            });
+        match event {
+            Event::Step { lane } => self.step(mem, lane),
+            other => self.do_event(mem, other),
         }
-        Ok(outcome)
+    }
+
+    /// A lane makes its next action: the event that comes most often, by itself.
+    fn step<M: Memory>(&mut self, mem: &mut M, lane: u8) -> Result<Outcome, OutOfMemory>
+        requires can { CanBeSound (M.words mem.old) self.old }
+        ensures happens { IfOk result (λ outcome. OnDone outcome (Happens (M.words mem.old)
+            self.old (M.words mem.new) self.new (Given.Step lane) outcome)) }
+        ensures count { IfOk result (λ outcome. CountsFault outcome (M.faults mem.old)
+            (M.faults mem.new)) }
+        ensures same { OnErr result (self.new ≡ self.old) }
+        ensures words { OnErr result (M.words mem.new ≡ M.words mem.old) }
+        ensures faults { OnErr result (M.faults mem.new ≡ M.faults mem.old) }
+        ensures ended { self.new.ended ≡ self.old.ended }
+    {
+        self.standing.reserve(1)?;
+        let came = self.crew.step(mem, lane)?;
+        Ok(keep(&mut self.standing, came))
+    }
+
+    /// Does one event, whatever it is.
+    fn do_event<M: Memory>(&mut self, mem: &mut M, event: Event) -> Result<Outcome, OutOfMemory>
+        requires can { CanBeSound (M.words mem.old) self.old }
+        requires event { MayBeGiven self.old event }
+        ensures happens { IfOk result (λ outcome. OnDone outcome (Happens (M.words mem.old)
+            self.old (M.words mem.new) self.new event outcome)) }
+        ensures count { IfOk result (λ outcome. CountsFault outcome (M.faults mem.old)
+            (M.faults mem.new)) }
+        ensures same { OnErr result (self.new ≡ self.old) }
+        ensures words { OnErr result (M.words mem.new ≡ M.words mem.old) }
+        ensures faults { OnErr result (M.faults mem.new ≡ M.faults mem.old) }
+        ensures ended { self.new.ended ≡ self.old.ended }
+    {
+        self.standing.reserve(1)?;
+        let came = self.crew.event(mem, event)?;
+        Ok(keep(&mut self.standing, came))
     }
 
     /// Ends a world: the merger of each lane that was made acts until all is merged that the lane has sealed, up to its first

@@ -1,6 +1,6 @@
 //! The opening of a crew over a pool of zeros.
 
-ghost use Rattle.std.specs.Prelude.{◌≡◌, ◌<◌, ◌≤◌, ℕ, List, [], IfOk, OnOk, true, false, slice_index, length};
+ghost use Rattle.std.specs.Prelude.{◌≡◌, ◌<◌, ◌≤◌, ◌&&◌, ℕ, List, [], IfOk, OnOk, OnErr, true, false, slice_index, length};
 ghost use Rattle.dn_act.specs.Action.{MayPerform};
 ghost use Rattle.dn_act.specs.Words.{IsZeros, pool_size};
 ghost use Rattle.dn_cluster.specs.Acting.{format_of};
@@ -9,9 +9,12 @@ ghost use Rattle.dn_outcomes.specs.Orders.{monitor};
 ghost use Rattle.dn_outcomes.specs.Runs.{after};
 ghost use Rattle.dn_outcomes.specs.State.{with_event};
 ghost use Rattle.dn_ring.specs.Ring.{IsOwner};
+ghost use Rattle.std.specs.Option.{option_copied};
+ghost use Rattle.dn_callers.specs.Sessions.{IsSession};
+ghost use Rattle.dn_waiting.specs.State.{call_of};
 ghost use Rattle.dn_waiting.specs.Stops.{waiting_from};
 ghost use Rattle.dn_world2.specs.Comes.{Turns};
-ghost use Rattle.dn_world2.specs.Opening.{IsNew, MayGoOn, Leads, MayGrant, IsGranted, MayGrantAll, AreGranted, HasFormat, IsOpened, formatted, adds_for};
+ghost use Rattle.dn_world2.specs.Opening.{IsNew, MayGoOn, Leads, MayGrant, IsGranted, MayGrantAll, AreGranted, HasFormat, IsOpened, IsWhole, formatted, adds_for};
 ghost use Rattle.dn_world2.specs.State.{world_of};
 
 use super::Crew;
@@ -20,10 +23,24 @@ use dn_cluster::{Acted, Cluster};
 use dn_monitor::Order;
 use dn_outcomes::Outcome;
 use dn_ring::assign;
-use dn_waiting::Waiting;
+use dn_waiting::{OpenCall, Waiting};
 use dn_word::OutOfMemory;
 use dn_word::regions::SLOTS;
 use std::alloc::Global;
+
+/// A crew that was opened, and whether no access to the pool failed meanwhile.
+#[derive(Drop)]
+pub struct Opened {
+    pub crew: Crew,
+    pub whole: bool,
+}
+
+/// Whether both are so.
+fn both(first: bool, second: bool) -> bool
+    ensures { result ≡ (first && second) }
+{
+    first && second
+}
 
 impl Crew {
     /// Opens a crew over a pool of zeros, with lanes 1 to `nodes`.
@@ -32,26 +49,32 @@ impl Crew {
         mem: &mut M,
         segments: u32,
         nodes: u8,
-    ) -> Result<Crew, OutOfMemory>
+    ) -> Result<Opened, OutOfMemory>
         requires size { length (M.words mem.old) ≡ pool_size segments }
         requires zeros { IsZeros (M.words mem.old) }
         requires segments { segments ≤ 8192 }
         requires some { 1 ≤ nodes }
         requires most { nodes ≤ 63 }
-        ensures opened { M.faults mem.new ≡ M.faults mem.old → IfOk result (λ crew. IsOpened
-            (M.words mem.old) (M.words mem.new) (record { crew = crew; history = []; ended = [] })
-            segments nodes) }
-        ensures formatted { IfOk result (λ crew. HasFormat segments (M.words mem.new)
-            → MayGoOn (M.words mem.new) crew) }
+        ensures opened { M.faults mem.new ≡ M.faults mem.old → IfOk result (λ it. IsOpened
+            (M.words mem.old) (M.words mem.new)
+            (record { crew = it.crew; history = []; ended = [] }) segments nodes) }
+        ensures formatted { IfOk result (λ it. HasFormat segments (M.words mem.new)
+            → MayGoOn (M.words mem.new) it.crew) }
+        ensures whole { IfOk result (λ it. IsWhole it.whole (M.faults mem.old)
+            (M.faults mem.new)) }
         ensures count { M.faults mem.old ≤ M.faults mem.new }
+        ensures words { OnErr result (M.words mem.new ≡ M.words mem.old) }
+        ensures faults { OnErr result (M.faults mem.new ≡ M.faults mem.old) }
     {
         let mut crew = Crew::new(alloc, segments)?;
-        let formatted = crew.format(mem);
         crew.add_lanes(nodes)?;
-        if formatted {
-            crew.grant_slots(mem);
-        }
-        Ok(crew)
+        let formatted = crew.format(mem);
+        let whole = if formatted {
+            crew.grant_slots(mem)
+        } else {
+            false
+        };
+        Ok(Opened { crew, whole })
     }
 
     /// Formats the pool, and answers whether that was done.
@@ -90,35 +113,38 @@ impl Crew {
         Ok(())
     }
 
-    /// Gives each slot to its owner on the ring of the live lanes.
-    fn grant_slots<M: Memory>(&mut self, mem: &mut M)
+    /// Gives each slot to its owner on the ring of the live lanes, and answers whether no access failed.
+    fn grant_slots<M: Memory>(&mut self, mem: &mut M) -> bool
         requires { MayGrantAll (M.words mem.old) self.old }
         ensures granted { M.faults mem.new ≡ M.faults mem.old → AreGranted (M.words mem.old)
             self.old (M.words mem.new) self.new }
         ensures sound { MayGoOn (M.words mem.new) self.new }
-        ensures count { M.faults mem.old ≤ M.faults mem.new }
+        ensures whole { IsWhole result (M.faults mem.old) (M.faults mem.new) }
     {
         let lanes = assign(&self.live);
-        self.grant_each(mem, lanes);
+        self.grant_each(mem, lanes)
     }
 
-    /// Gives each slot to its lane, which is its owner.
-    fn grant_each<M: Memory>(&mut self, mem: &mut M, lanes: [u8; 64])
+    /// Gives each slot to its lane, which is its owner, and answers whether no access failed.
+    fn grant_each<M: Memory>(&mut self, mem: &mut M, lanes: [u8; 64]) -> bool
         requires can { MayGrantAll (M.words mem.old) self.old }
         requires owners { (slot : ℕ) → slot < 64
             → IsOwner self.old.live slot (slice_index lanes slot) }
         ensures granted { M.faults mem.new ≡ M.faults mem.old → AreGranted (M.words mem.old)
             self.old (M.words mem.new) self.new }
         ensures sound { MayGoOn (M.words mem.new) self.new }
-        ensures count { M.faults mem.old ≤ M.faults mem.new }
+        ensures whole { IsWhole result (M.faults mem.old) (M.faults mem.new) }
     {
+        let mut whole = true;
         for slot in 0..SLOTS {
-            self.grant(mem, slot, lanes[usize::from(slot)]);
+            let granted = self.grant(mem, slot, lanes[usize::from(slot)]);
+            whole = both(whole, granted);
         }
+        whole
     }
 
-    /// Gives a slot to a lane.
-    fn grant<M: Memory>(&mut self, mem: &mut M, slot: u8, lane: u8)
+    /// Gives a slot to a lane, and answers whether no access failed.
+    fn grant<M: Memory>(&mut self, mem: &mut M, slot: u8, lane: u8) -> bool
         requires sound { MayGoOn (M.words mem.old) self.old }
         requires slot { slot < 64 }
         requires some { 0 < lane }
@@ -127,24 +153,27 @@ impl Crew {
         ensures granted { M.faults mem.new ≡ M.faults mem.old
             → MayGrant (M.words mem.old) self.old slot lane
             → IsGranted (M.words mem.old) self.old (M.words mem.new) self.new slot lane }
-        ensures count { M.faults mem.old ≤ M.faults mem.new }
+        ensures whole { IsWhole result (M.faults mem.old) (M.faults mem.new) }
     {
         self.give(Order::Move { slot, to: lane });
-        self.carry_on(mem);
-        self.carry_on(mem);
+        let looked = self.carry_on(mem);
+        let exchanged = self.carry_on(mem);
+        both(looked, exchanged)
     }
 
-    /// The monitor makes its next action. Where that fails its order is dropped.
-    fn carry_on<M: Memory>(&mut self, mem: &mut M)
+    /// The monitor makes its next action. Where that fails its order is dropped. Answers whether it didn't fail.
+    fn carry_on<M: Memory>(&mut self, mem: &mut M) -> bool
         requires { MayGoOn (M.words mem.old) self.old }
         ensures sound { MayGoOn (M.words mem.new) self.new }
         ensures leads { M.faults mem.new ≡ M.faults mem.old → Leads (M.words mem.old) self.old
             (M.words mem.new) self.new monitor }
-        ensures count { M.faults mem.old ≤ M.faults mem.new }
+        ensures whole { IsWhole result (M.faults mem.old) (M.faults mem.new) }
     {
         if let Outcome::Fault { .. } = self.monitor(mem) {
             self.drop_order();
+            return false;
         }
+        true
     }
 
     /// The monitor's order is dropped.
@@ -166,6 +195,14 @@ impl Crew {
         ensures { result.now ≡ self.now.live }
     {
         &self.live
+    }
+
+    /// The call that a session has, or none.
+    pub fn call(&self, session: u32) -> Option<&OpenCall>
+        requires { IsSession session }
+        ensures { option_copied result ≡ call_of self.now.waiting session }
+    {
+        self.waiting.call(session)
     }
 
     /// The calls that have no end yet, each by its session and its number, in order of session; or want of memory.

@@ -1,4 +1,4 @@
-use Rattle.std.proofs.Common.{ℕ, ◌≡◌, false, List, refl, arith}
+use Rattle.std.proofs.Common.{ℕ, ◌≡◌, false, List, refl}
 use Rattle.dn_outcomes.specs.Orders.{monitor}
 use Rattle.dn_outcomes.proofs.Others.{monitor_kept}
 use Rattle.dn_world2.specs.Comes.{has_failed}
@@ -11,8 +11,8 @@ returns-in-Fault-clause-sound g c =
     may_drop (g.M.Memory.words c.args.mem.now) c.args.self.now c.monitor.new.self (g.M.Memory.words c.monitor.new.mem) c.drop_order.new.self c.requires
     (c.in-Fault.ensures.fails refl) (c.in-Fault.ensures.same refl) c.drop_order.ensures
 
-pub returns-in_default : goal.returns-in_default
-returns-in_default g c =
+pub returns : goal.returns
+returns g c =
     let words : List ℕ = g.M.Memory.words c.args.mem.now in
     let now : List ℕ = g.M.Memory.words c.monitor.new.mem in
     let fine : has_failed c.monitor.result ≡ false = is_fine c.monitor.result c.in_default.not-Fault in
@@ -20,5 +20,5 @@ returns-in_default g c =
     record {
       sound = may_lead words c.args.self.now now c.monitor.new.self monitor leads monitor_kept c.requires;
       leads = λ _. leads;
-      count = omega (arith, c.monitor.ensures.count.done fine);
+      whole = record { yes_whole = λ _. c.monitor.ensures.count.done fine; not_whole = λ e. absurd (cc) };
     }

@@ -1,5 +1,5 @@
-use Rattle.std.proofs.Common.{ℕ, ◌≡◌, ◌≤◌, slice_index}
-use Rattle.dn_world2.specs.Opening.{MayGoOn}
+use Rattle.std.proofs.Common.{ℕ, ◌≡◌, slice_index}
+use Rattle.dn_world2.specs.Opening.{MayGoOn, IsWhole}
 use Rattle.dn_world2.proofs.Granting.{IsSoFar}
 use Rattle.dn_world2.proofs.crews.Crew.grant_each.Given as goal
 
@@ -9,5 +9,5 @@ invariant-loop-slot g l = record {
   sound : MayGoOn (g.M.Memory.words l.mem) l.self;
   granted : g.M.Memory.faults l.mem ≡ g.M.Memory.faults l.fn.mem
       → IsSoFar (g.M.Memory.words l.fn.mem) l.fn.self (g.M.Memory.words l.mem) l.self (λ (t : ℕ). slice_index l.fn.lanes t) l.slot;
-  count : g.M.Memory.faults l.fn.mem ≤ g.M.Memory.faults l.mem;
+  whole : IsWhole l.whole (g.M.Memory.faults l.fn.mem) (g.M.Memory.faults l.mem);
 }

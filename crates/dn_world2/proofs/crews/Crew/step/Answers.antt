@@ -7,14 +7,13 @@ use Rattle.dn_cluster.specs.Machine.{lane_in, IsMade}
 use Rattle.dn_cluster.specs.State.{numbered}
 use Rattle.dn_waiting.specs.State.{at_lane}
 use Rattle.dn_waiting.specs.Turns.{next_at}
-use Rattle.dn_waiting.specs.declared.calls.Next.TheVariants.{Rest, Tend, Try}
-use Rattle.dn_outcomes.specs.State.{is_made, on_lane}
+use Rattle.dn_outcomes.specs.State.{World, is_made, on_lane}
 use Rattle.dn_outcomes.specs.Steps.{acts, step}
 use Rattle.dn_outcomes.specs.declared.outcomes.Outcome.TheVariants.{Nothing, NoLane}
 use Rattle.dn_world2.specs.Comes.{Comes, OnDone, bare, has_failed}
 use Rattle.dn_world2.specs.Inside.{state_of}
 use Rattle.dn_world2.specs.State.{CrewState, world_of}
-use Rattle.dn_world2.specs.Takes.{tends_at, tries_at}
+use Rattle.dn_world2.specs.Takes.{begins_at}
 use Rattle.dn_world2.specs.declared.crews.Came.{Came}
 use Rattle.dn_world2.proofs.Stepping.{comes_eq, unmade, on_made, made_of, number_of, some_of, step_stopped, step_working, step_resting, begun_session, can_be_sound, if_ok, not_both}
 use Rattle.dn_world2.proofs.TakingUp.{lane_is}
@@ -116,18 +115,8 @@ returns-then-working-clause-came g c =
     ∙ step_working (world_of words x told receipts) n l runs (sym works ∙ c.if-working.true))
     (comes_of words x now c.act.new.self c.act.result (λ w. acts w n) (c.act.ensures.came fine))
 
-pub next_for-requires : goal.next_for-requires
-next_for-requires g c =
-    let words : List ℕ = g.M.Memory.words c.args.mem.now in
-    let x : CrewState = c.args.self.now in
-    let n : ℕ = c.args.lane in
-    let made : (ws : List ℕ) (told : List Told) (receipts : List Standing) → is_made (world_of ws x told receipts) n ≡ true =
-    λ ws told receipts. sym (c.is_made.ensures ws told receipts) ∙ c.if-not-is_made.false in
-    let is : IsMade x.cluster n = made_of [] x [] [] n (made [] [] []) in
-    number_of words x n c.requires.can is
-
-pub tend-requires : goal.tend-requires
-tend-requires g c =
+pub begin_next-requires : goal.begin_next-requires
+begin_next-requires g c =
     let words : List ℕ = g.M.Memory.words c.args.mem.now in
     let x : CrewState = c.args.self.now in
     let n : ℕ = c.args.lane in
@@ -140,11 +129,10 @@ tend-requires g c =
     let runs : lane_in (numbered x.cluster.nodes n) ≡ Some l = subst (λ (z : CrewState). lane_in (numbered z.cluster.nodes n) ≡ Some l) c.self.view_is there.1 in
     let works : c.working.result ≡ is_working l.mode = c.working.ensures ∙ ap (λ (k : LaneState). is_working k.mode) (c.lane.ensures l there.1) in
     let rests : is_working l.mode ≡ false = sym works ∙ c.if-working.false in
-    let next : next_at (at_lane x.waiting n) ≡ Tend c.in-Tend.task = ap (λ (z : CrewState). next_at (at_lane z.waiting n)) (sym c.self.view_is) ∙ sym c.next_for.ensures ∙ c.in-Tend.is in
-    record { takes = record { can = c.requires.can; number = number_of words x n c.requires.can is; lane = l; runs = runs; rests = rests; next_is = next } }
+    record { free = record { can = c.requires.can; number = number_of words x n c.requires.can is; lane = l; runs = runs; rests = rests } }
 
-pub attempt-requires : goal.attempt-requires
-attempt-requires g c =
+pub returns-clause-came : goal.returns-clause-came
+returns-clause-came g c =
     let words : List ℕ = g.M.Memory.words c.args.mem.now in
     let x : CrewState = c.args.self.now in
     let n : ℕ = c.args.lane in
@@ -157,70 +145,8 @@ attempt-requires g c =
     let runs : lane_in (numbered x.cluster.nodes n) ≡ Some l = subst (λ (z : CrewState). lane_in (numbered z.cluster.nodes n) ≡ Some l) c.self.view_is there.1 in
     let works : c.working.result ≡ is_working l.mode = c.working.ensures ∙ ap (λ (k : LaneState). is_working k.mode) (c.lane.ensures l there.1) in
     let rests : is_working l.mode ≡ false = sym works ∙ c.if-working.false in
-    let next : next_at (at_lane x.waiting n) ≡ Try c.in-Try.view = ap (λ (z : CrewState). next_at (at_lane z.waiting n)) (sym c.self.view_is) ∙ sym c.next_for.ensures ∙ c.in-Try.is in
-    record { takes = record { can = c.requires.can; number = number_of words x n c.requires.can is; lane = l; runs = runs; rests = rests; next_is = next } }
-
-pub returns-in-Rest-clause-came : goal.returns-in-Rest-clause-came
-returns-in-Rest-clause-came g c =
-    let words : List ℕ = g.M.Memory.words c.args.mem.now in
-    let x : CrewState = c.args.self.now in
-    let n : ℕ = c.args.lane in
-    let made : (ws : List ℕ) (told : List Told) (receipts : List Standing) → is_made (world_of ws x told receipts) n ≡ true =
-    λ ws told receipts. sym (c.is_made.ensures ws told receipts) ∙ c.if-not-is_made.false in
-    let is : IsMade x.cluster n = made_of [] x [] [] n (made [] [] []) in
-    let b : CrewState = state_of c.self.inside in
-    let there = some_of (lane_in (numbered b.cluster.nodes n)) (λ e. not_both c.is_stopped.result (c.is_stopped.ensures.1 e) c.if-is_stopped.false) in
-    let l : LaneState = there.0 in
-    let runs : lane_in (numbered x.cluster.nodes n) ≡ Some l = subst (λ (z : CrewState). lane_in (numbered z.cluster.nodes n) ≡ Some l) c.self.view_is there.1 in
-    let works : c.working.result ≡ is_working l.mode = c.working.ensures ∙ ap (λ (k : LaneState). is_working k.mode) (c.lane.ensures l there.1) in
-    let rests : is_working l.mode ≡ false = sym works ∙ c.if-working.false in
-    let next : next_at (at_lane x.waiting n) ≡ Rest = ap (λ (z : CrewState). next_at (at_lane z.waiting n)) (sym c.self.view_is) ∙ sym c.next_for.ensures ∙ c.in-Rest.is in
-    λ _. subst (λ (z : Came). Comes words x words x z (λ w. on_lane w n (step w n))) (sym c.bare-in-Rest.ensures)
-    (comes_of words x words x (bare Nothing) (λ w. on_lane w n (step w n)) (stays words x Nothing (λ w. on_lane w n (step w n)) (λ told receipts. on_made (world_of words x told receipts) n (step (world_of words x told receipts) n) (made words told receipts)
-    ∙ step_resting (world_of words x told receipts) n l (Rest) runs rests next)))
-
-pub returns-in-Rest-clause-count : goal.returns-in-Rest-clause-count
-returns-in-Rest-clause-count g c =
-    counts_done c.bare-in-Rest.result.outcome _ _ (ap (λ (z : Came). has_failed z.outcome) c.bare-in-Rest.ensures) refl
-
-pub returns-in-Tend-clause-came : goal.returns-in-Tend-clause-came
-returns-in-Tend-clause-came g c =
-    let words : List ℕ = g.M.Memory.words c.args.mem.now in
-    let x : CrewState = c.args.self.now in
-    let n : ℕ = c.args.lane in
-    let made : (ws : List ℕ) (told : List Told) (receipts : List Standing) → is_made (world_of ws x told receipts) n ≡ true =
-    λ ws told receipts. sym (c.is_made.ensures ws told receipts) ∙ c.if-not-is_made.false in
-    let is : IsMade x.cluster n = made_of [] x [] [] n (made [] [] []) in
-    let b : CrewState = state_of c.self.inside in
-    let there = some_of (lane_in (numbered b.cluster.nodes n)) (λ e. not_both c.is_stopped.result (c.is_stopped.ensures.1 e) c.if-is_stopped.false) in
-    let l : LaneState = there.0 in
-    let runs : lane_in (numbered x.cluster.nodes n) ≡ Some l = subst (λ (z : CrewState). lane_in (numbered z.cluster.nodes n) ≡ Some l) c.self.view_is there.1 in
-    let works : c.working.result ≡ is_working l.mode = c.working.ensures ∙ ap (λ (k : LaneState). is_working k.mode) (c.lane.ensures l there.1) in
-    let rests : is_working l.mode ≡ false = sym works ∙ c.if-working.false in
-    let next : next_at (at_lane x.waiting n) ≡ Tend c.in-Tend.task = ap (λ (z : CrewState). next_at (at_lane z.waiting n)) (sym c.self.view_is) ∙ sym c.next_for.ensures ∙ c.in-Tend.is in
-    let now : List ℕ = g.M.Memory.words c.tend.new.mem in
-    let y : CrewState = c.tend.new.self in
-    if_ok c.tend.result (λ came. OnDone came.outcome (Comes words x now y came (λ w. tends_at w n c.in-Tend.task))) (λ came. OnDone came.outcome (Comes words x now y came (λ w. on_lane w n (step w n))))
-    (λ came h fine. comes_eq words x now y came (λ w. tends_at w n c.in-Tend.task) (λ w. on_lane w n (step w n)) (λ told receipts. on_made (world_of words x told receipts) n (step (world_of words x told receipts) n) (made words told receipts)
-    ∙ step_resting (world_of words x told receipts) n l (Tend c.in-Tend.task) runs rests next) (h fine)) c.tend.ensures.came
-
-pub returns-in-Try-clause-came : goal.returns-in-Try-clause-came
-returns-in-Try-clause-came g c =
-    let words : List ℕ = g.M.Memory.words c.args.mem.now in
-    let x : CrewState = c.args.self.now in
-    let n : ℕ = c.args.lane in
-    let made : (ws : List ℕ) (told : List Told) (receipts : List Standing) → is_made (world_of ws x told receipts) n ≡ true =
-    λ ws told receipts. sym (c.is_made.ensures ws told receipts) ∙ c.if-not-is_made.false in
-    let is : IsMade x.cluster n = made_of [] x [] [] n (made [] [] []) in
-    let b : CrewState = state_of c.self.inside in
-    let there = some_of (lane_in (numbered b.cluster.nodes n)) (λ e. not_both c.is_stopped.result (c.is_stopped.ensures.1 e) c.if-is_stopped.false) in
-    let l : LaneState = there.0 in
-    let runs : lane_in (numbered x.cluster.nodes n) ≡ Some l = subst (λ (z : CrewState). lane_in (numbered z.cluster.nodes n) ≡ Some l) c.self.view_is there.1 in
-    let works : c.working.result ≡ is_working l.mode = c.working.ensures ∙ ap (λ (k : LaneState). is_working k.mode) (c.lane.ensures l there.1) in
-    let rests : is_working l.mode ≡ false = sym works ∙ c.if-working.false in
-    let next : next_at (at_lane x.waiting n) ≡ Try c.in-Try.view = ap (λ (z : CrewState). next_at (at_lane z.waiting n)) (sym c.self.view_is) ∙ sym c.next_for.ensures ∙ c.in-Try.is in
-    let now : List ℕ = g.M.Memory.words c.attempt.new.mem in
-    let y : CrewState = c.attempt.new.self in
-    if_ok c.attempt.result (λ came. OnDone came.outcome (Comes words x now y came (λ w. tries_at w n c.in-Try.view))) (λ came. OnDone came.outcome (Comes words x now y came (λ w. on_lane w n (step w n))))
-    (λ came h fine. comes_eq words x now y came (λ w. tries_at w n c.in-Try.view) (λ w. on_lane w n (step w n)) (λ told receipts. on_made (world_of words x told receipts) n (step (world_of words x told receipts) n) (made words told receipts)
-    ∙ step_resting (world_of words x told receipts) n l (Try c.in-Try.view) runs rests next) (h fine)) c.attempt.ensures.came
+    let now : List ℕ = g.M.Memory.words c.begin_next.new.mem in
+    let y : CrewState = c.begin_next.new.self in
+    if_ok c.begin_next.result (λ came. OnDone came.outcome (Comes words x now y came (λ w. begins_at w n))) (λ came. OnDone came.outcome (Comes words x now y came (λ w. on_lane w n (step w n))))
+    (λ came h fine. comes_eq words x now y came (λ w. begins_at w n) (λ w. on_lane w n (step w n)) (λ told receipts. (let v : World = world_of words x told receipts in
+    on_made v n (step v n) (made words told receipts) ∙ step_resting v n l (next_at (at_lane x.waiting n)) runs rests refl)) (h fine)) c.begin_next.ensures.came
