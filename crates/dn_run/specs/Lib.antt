@@ -1,0 +1,9 @@
+pub mod Doing
+pub mod Happening
+pub mod Run
+pub mod Text
+pub mod Counts
+pub mod Output
+pub mod Uncalled
+pub mod Headline
+pub mod Going

@@ -1,0 +1,36 @@
+//! What is so of runs, as functions without work: what each says is its contract.
+
+ghost use Rattle.std.specs.Prelude.{ℕ, List, All};
+ghost use Rattle.std.specs.List.Sorted.{IsPermutation};
+ghost use Rattle.dn_hist.specs.Calls.{Bytes};
+ghost use Rattle.dn_hist.specs.Receipt.{IsInOrder};
+ghost use Rattle.dn_callers.specs.Callers.{Standing, receipts_of};
+ghost use Rattle.dn_model.specs.PoolMap.{HoldsMap};
+ghost use Rattle.dn_outcomes.specs.Sound.{IsWorld};
+ghost use Rattle.dn_outcomes.specs.State.{World};
+ghost use Rattle.dn_script.specs.Fit.{IsLine};
+ghost use Rattle.dn_script.specs.declared.scripts.Line.{Line};
+ghost use Rattle.dn_run.specs.Headline.{IsHeadline};
+ghost use Rattle.dn_run.specs.Run.{after_steps, run_of, IsRunOf};
+ghost use Rattle.dn_run.specs.Uncalled.{IsUncalled};
+
+/// A run is a run of events over its world, and its world is sound throughout.
+pub fn runs()
+    ensures events { (w : World) (lines : List Line) (n : ℕ) → IsWorld w → IsUncalled w
+        → All IsLine lines → IsRunOf w (after_steps n (run_of w lines)) }
+    ensures sound { (w : World) (lines : List Line) (n : ℕ) → IsWorld w → IsUncalled w
+        → All IsLine lines → IsWorld (after_steps n (run_of w lines)).world }
+{}
+
+/// Whatever the lines let interleave, from a world in which no call was made: the receipts that stand, in order of position, are a
+/// history that makes a plain map give every reply that was told; it holds each call that was told as made once, in its caller's
+/// order, and nothing else; and words that hold the map that the run's words hold, hold the map that the history leaves.
+pub fn headline()
+    ensures { (w : World) (lines : List Line) (n : ℕ) (words : List ℕ) (history : List Standing)
+        → IsWorld w → IsUncalled w → All IsLine lines
+        → IsPermutation (after_steps n (run_of w lines)).world.machine.callers.receipts history
+        → IsInOrder (receipts_of history)
+        → ((held : Bytes) → HoldsMap (after_steps n (run_of w lines)).world.machine.words held
+        → HoldsMap words held)
+        → IsHeadline lines (after_steps n (run_of w lines)) words history }
+{}
