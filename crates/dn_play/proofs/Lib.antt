@@ -1,0 +1,14 @@
+pub mod Added
+pub mod Given
+pub mod Numbered
+pub mod More
+pub mod Stopping
+pub mod Texts
+pub mod Printed
+pub mod Loading
+pub mod Leading
+pub mod Repeating
+pub mod Finishing
+pub mod Lines
+pub mod Playing
+pub mod Opened
