@@ -1,0 +1,129 @@
+use Rattle.std.proofs.Common.{ℕ, ◌≡◌, List, [], All, inl, inr, refl, sym, ◌∙◌, subst, arith}
+use Rattle.dn_outcomes.specs.State.{World}
+use Rattle.dn_play.specs.At.{IsAt, IsStarted, IsFollowed, CanGo, Follow, Reached, Reaches, Halts, StopsOpening}
+use Rattle.dn_play.specs.declared.players.Player.{Player}
+use Rattle.dn_play.specs.declared.stops.Stop.{Stop}
+use Rattle.dn_play.specs.declared.stops.Stop.TheVariants as stop
+use Rattle.dn_play.proofs.Stopping.{words_at}
+use Rattle.dn_run.specs.Run.{Run, run_of, after_steps}
+use Rattle.dn_run.proofs.Heads.{heads}
+use Rattle.dn_script.specs.Fit.{IsLine}
+use Rattle.dn_script.specs.declared.scripts.Line.{Line}
+use Rattle.dn_script.specs.declared.scripts.Script.{Script}
+use Rattle.dn_world2.specs.State.{world_of}
+use Rattle.dn_whole.specs.Close.{Closes, StopsClose, Ends, Stops}
+use Rattle.dn_whole.specs.Whole.{IsMoment, IsShort, IsLong, Plays, StopsPlay}
+use Rattle.dn_whole.specs.declared.ends.End.{End}
+use Rattle.dn_whole.specs.declared.ends.End.TheVariants.{Done, Long, IndexFull}
+
+-- A script is played from the opening on.
+
+-- ---- the run, over the world of the player that was opened
+abbrev pub first : List ℕ → Player → World
+first words p = world_of words p.world.crew [] []
+
+abbrev pub run_from : Script → List ℕ → Player → Run
+run_from script words p = run_of (first words p) script.lines
+
+-- a script whose play was opened
+pub record IsOpen (script : Script) (before words : List ℕ) (p : Player) (out : List ℕ) : Type 0 where
+  pub started : IsStarted before words p script.segments script.nodes
+  pub fit : All IsLine script.lines
+  pub empty : out ≡ []
+
+at_first : (script : Script) (before words : List ℕ) (p : Player) (out : List ℕ) → IsOpen script before words p out → IsAt (first words p) script.lines words p out (run_from script words p)
+at_first script before words p out h = subst (λ (o : List ℕ). IsAt (first words p) script.lines words p o (run_from script words p)) (sym h.empty) (h.started.is script.lines h.fit)
+
+follows_first : (script : Script) (words : List ℕ) (p : Player) (ls : List Line) → ls ≡ script.lines → IsFollowed (run_from script words p) ls
+follows_first script words p ls is = subst (λ (xs : List Line). IsFollowed (run_from script words p) xs) (sym is) (record { between = record { loads = refl; doing = refl }; lines = refl })
+
+pub can_start : (script : Script) (before words : List ℕ) (p : Player) (out : List ℕ) (ls : List Line) → IsOpen script before words p out → ls ≡ script.lines → CanGo words p out (Follow ls)
+can_start script before words p out ls h is = record {
+  start = first words p;
+  lines = script.lines;
+  run = run_from script words p;
+  at = at_first script before words p out h;
+  may_go = follows_first script words p ls is;
+}
+
+pub reached_lines : (script : Script) (before words now : List ℕ) (p q : Player) (out new : List ℕ) (ls : List Line) → IsOpen script before words p out → ls ≡ script.lines → Reaches words p out now q new (Follow ls) []
+    → Reached (first words p) script.lines now q new (run_from script words p) []
+reached_lines script before words now p q out new ls h is all = all.is (first words p) script.lines (run_from script words p) (at_first script before words p out h) (follows_first script words p ls is)
+
+pub can_close : (script : Script) (words now : List ℕ) (p q : Player) (new : List ℕ) → Reached (first words p) script.lines now q new (run_from script words p) [] → CanGo now q new (Follow [])
+can_close script words now p q new h = record {
+  start = first words p;
+  lines = script.lines;
+  run = after_steps h.count (run_from script words p);
+  at = h.at;
+  may_go = h.followed;
+}
+
+-- ---- how it ends
+moment_of : (script : Script) (before words : List ℕ) (p : Player) (out : List ℕ) (count : ℕ) → IsOpen script before words p out → IsMoment script before (after_steps count (run_from script words p))
+moment_of script before words p out count h = record { words = words; opening = p.world; opened = h.started.opened; count = count; is = refl }
+
+short_of : (w : World) (lines : List Line) (words : List ℕ) (p : Player) (out : List ℕ) (r : Run) → IsAt w lines words p out r → IsShort r
+short_of w lines words p out r at = omega (arith, at.events, at.few)
+
+pub plays_end : (script : Script) (before words now fin : List ℕ) (p q : Player) (out new last : List ℕ) (end : End) → IsOpen script before words p out → Reached (first words p) script.lines now q new (run_from script words p) [] → Closes now q new fin last end
+    → Plays script before fin last end
+plays_end script before words now fin p q out new last end h reached closes =
+    by end (closes.is (first words p) script.lines (after_steps reached.count (run_from script words p)) reached.at reached.followed) where
+      by : (end : End) → Ends (after_steps reached.count (run_from script words p)) fin last end → Plays script before fin last end
+      by Done d = record {
+        run = after_steps reached.count (run_from script words p);
+        moment = moment_of script before words p out reached.count h;
+        over = record { between = reached.followed.between; lines = reached.followed.lines };
+        short = short_of (first words p) script.lines now q new (after_steps reached.count (run_from script words p)) reached.at;
+        drained = d.drained;
+        merged = d.merged;
+        history = d.history;
+        headline = heads (first words p) script.lines reached.count fin d.history reached.at.start reached.at.fresh h.fit d.once d.sorted d.drained.map;
+        output = d.output;
+      }
+      by Long d = absurd d
+      by IndexFull d = record {
+        run = after_steps reached.count (run_from script words p);
+        moment = moment_of script before words p out reached.count h;
+        over = record { between = reached.followed.between; lines = reached.followed.lines };
+        short = short_of (first words p) script.lines now q new (after_steps reached.count (run_from script words p)) reached.at;
+        lane = d.lane;
+        counter = d.counter;
+        drained = d.drained;
+        full = d.full;
+        output = d.output;
+      }
+
+pub plays_long : (script : Script) (before words now : List ℕ) (p q : Player) (out new : List ℕ) (ls : List Line) → IsOpen script before words p out → ls ≡ script.lines → Halts words p out now q new (Follow ls) stop.Long → IsLong script before now new
+plays_long script before words now p q out new ls h is halts =
+    let l = halts.is (first words p) script.lines (run_from script words p) (at_first script before words p out h) (follows_first script words p ls is) in record {
+      run = after_steps l.count (run_from script words p);
+      moment = moment_of script before words p out l.count h;
+      all = sym l.at.events ∙ l.all;
+      more = l.more;
+      words = words_at (first words p) script.lines now q new (after_steps l.count (run_from script words p)) l.at;
+      output = l.at.printed;
+    }
+
+-- ---- or stops
+pub stops_opening : (script : Script) (before now : List ℕ) (why : Stop) → StopsOpening before now why → StopsPlay script before now why
+stops_opening script before now stop.Long h = h
+stops_opening script before now stop.Pool h = tt
+stops_opening script before now stop.OutOfMemory h = inl h
+
+pub stops_lines : (script : Script) (before words now : List ℕ) (p q : Player) (out new : List ℕ) (ls : List Line) (why : Stop) → IsOpen script before words p out → ls ≡ script.lines → (why ≡ stop.Long → ⊥) → Halts words p out now q new (Follow ls) why → StopsPlay script before now why
+stops_lines script before words now p q out new ls stop.Long h is short halts = absurd (short refl)
+stops_lines script before words now p q out new ls stop.Pool h is short halts = tt
+stops_lines script before words now p q out new ls stop.OutOfMemory h is short halts =
+    let l = halts.is (first words p) script.lines (run_from script words p) (at_first script before words p out h) (follows_first script words p ls is) in
+    inr (record { run = after_steps l.count (run_from script words p); moment = moment_of script before words p out l.count h; es = []; words = l.words })
+
+pub stops_close : (script : Script) (before words now fin : List ℕ) (p q : Player) (out new : List ℕ) (why : Stop) → IsOpen script before words p out → Reached (first words p) script.lines now q new (run_from script words p) [] → StopsClose now q new fin why
+    → StopsPlay script before fin why
+stops_close script before words now fin p q out new why h reached stops =
+    by why (stops.is (first words p) script.lines (after_steps reached.count (run_from script words p)) reached.at reached.followed) where
+      by : (why : Stop) → Stops (after_steps reached.count (run_from script words p)) fin why → StopsPlay script before fin why
+      by stop.Long s = s
+      by stop.Pool s = tt
+      by stop.OutOfMemory s = inr (record { run = after_steps reached.count (run_from script words p); moment = moment_of script before words p out reached.count h; es = s.es; words = s.words })

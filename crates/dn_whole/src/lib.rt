@@ -1,0 +1,10 @@
+//! A script played whole: the pool is opened, the lines are played, the lanes are drained, and the output is made.
+#![tactic(auto)]
+
+mod ends;
+mod plays;
+#[cfg(test)]
+mod tests;
+
+pub use ends::End;
+pub use plays::play;
