@@ -4,6 +4,7 @@
 #![tactic(auto)]
 
 mod players;
+mod printing;
 mod stops;
 mod tallies;
 #[cfg(test)]

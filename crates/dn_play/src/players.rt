@@ -3,7 +3,6 @@
 ghost use Rattle.std.specs.Prelude.{◌≡◌, ◌<◌, ◌≤◌, ◌+◌, ◌^◌, ◌++◌, [], ℕ, List, Some, true, length, IfOk, IfErr, OnOk};
 ghost use Rattle.dn_act.specs.Words.{IsZeros, pool_size};
 ghost use Rattle.dn_callers.specs.Sessions.{IsSession};
-ghost use Rattle.dn_print.specs.CallLine.{event_text};
 ghost use Rattle.dn_waiting.specs.State.{call_of};
 ghost use Rattle.dn_run.specs.Doing.{finds_nothing, moves_at, doing_of};
 ghost use Rattle.dn_run.specs.Doing as asks;
@@ -14,17 +13,20 @@ ghost use Rattle.dn_script.specs.declared.scripts.Line.{Line as LineOf};
 ghost use Rattle.dn_run.specs.Run.{Run, loader, loads_deed};
 ghost use Rattle.dn_outcomes.specs.declared.events.Event.TheVariants as happens;
 ghost use Rattle.dn_outcomes.specs.Told.{is_made_by};
-ghost use Rattle.dn_run.specs.Text.{load_text, no_lane_text, add_text, start_text, given_text, receipt_text, answer_text, step_text};
+ghost use Rattle.dn_run.specs.Text.{receipt_text, answer_text, step_text};
 ghost use Rattle.dn_world2.specs.Comes.{has_failed};
 ghost use Rattle.dn_play.specs.At.{IsAt, IsCounted, CanGo, Goes, Halts, IsMoved, IsMovedBy, IsToSession, Awaits, Repeats, Finishes, Ends, event_by, doing_in, left_by, CanLoad, Stops, CountsStop, CanGive, Gives, StopsEvent, place_of, loads_by, refused_by, Undone, runs_on, Follow, Reaches, IsStarted, StopsOpening};
 ghost use Rattle.dn_play.specs.Tally.{HasRoom, added};
 
+use crate::printing::{
+    print, print_add, print_given, print_lane, print_load, print_nothing, print_start,
+};
 use crate::stops::Stop;
 use crate::tallies::{is_made, nothing, tally};
 use dn_act::Memory;
 use dn_hist::Call;
 use dn_outcomes::{CallAnswer, Event, Outcome};
-use dn_print::{EventLine, event as print_event, made as print_made};
+use dn_print::{EventLine, made as print_made};
 use dn_run::Counts;
 use dn_script::Line;
 use dn_waiting::Place;
@@ -33,7 +35,7 @@ use dn_world2::{OpenFault, World};
 use std::alloc::Global;
 
 /// The most events of a play.
-pub const MOST_EVENTS: u32 = 1 << 22;
+const MOST_EVENTS: u32 = 1 << 22;
 
 /// The events of an opening: the format of the pool, and two for each slot.
 const OPENING: u32 = 129;
@@ -59,93 +61,6 @@ pub struct Player {
     pub world: World,
     pub counts: Counts,
     pub events: u32,
-}
-
-/// Prints a line.
-fn print(out: &mut Vec<u8>, line: EventLine) -> Result<(), Stop>
-    ensures ok { OnOk result (out.new.items ≡ out.old.items ++ event_text line) }
-    ensures want { IfErr result (λ stop. stop ≡ Stop.OutOfMemory) }
-{
-    match print_event(out, &line) {
-        Ok(()) => Ok(()),
-        Err(OutOfMemory) => Err(Stop::OutOfMemory),
-    }
-}
-
-/// Prints what comes of a load.
-fn print_load(out: &mut Vec<u8>, outcome: Outcome) -> Result<(), Stop>
-    ensures ok { OnOk result (out.new.items ≡ out.old.items ++ load_text outcome) }
-    ensures want { IfErr result (λ stop. stop ≡ Stop.OutOfMemory) }
-{
-    match outcome {
-        Outcome::GivenUp { session, number } => print(out, EventLine::Given { session, number }),
-        _ => Ok(()),
-    }
-}
-
-/// Prints nothing.
-fn print_nothing(out: &mut Vec<u8>) -> Result<(), Stop>
-    ensures ok { OnOk result (out.new.items ≡ out.old.items ++ []) }
-    ensures want { IfErr result (λ stop. stop ≡ Stop.OutOfMemory) }
-{
-    Ok(())
-}
-
-/// Prints that a call is given up, where it is.
-fn print_given(out: &mut Vec<u8>, session: u32, number: u32, given: bool) -> Result<(), Stop>
-    ensures ok { OnOk result (out.new.items ≡ out.old.items ++ given_text session number given) }
-    ensures want { IfErr result (λ stop. stop ≡ Stop.OutOfMemory) }
-{
-    if given {
-        print(out, EventLine::Given { session, number })
-    } else {
-        Ok(())
-    }
-}
-
-/// Prints what comes of an event that names a lane and has no answer.
-fn print_lane(out: &mut Vec<u8>, lane: u8, outcome: Outcome) -> Result<(), Stop>
-    ensures ok { OnOk result (out.new.items ≡ out.old.items ++ no_lane_text lane outcome) }
-    ensures want { IfErr result (λ stop. stop ≡ Stop.OutOfMemory) }
-{
-    match outcome {
-        Outcome::NoLane => print(out, EventLine::NoLane { lane }),
-        _ => Ok(()),
-    }
-}
-
-/// Prints what comes of a lane that is added.
-fn print_add(out: &mut Vec<u8>, outcome: Outcome) -> Result<(), Stop>
-    ensures ok { OnOk result (out.new.items ≡ out.old.items ++ add_text outcome) }
-    ensures want { IfErr result (λ stop. stop ≡ Stop.OutOfMemory) }
-{
-    match outcome {
-        Outcome::Added { lane } => print(out, EventLine::Lane { lane }),
-        Outcome::LanesFull => print(out, EventLine::LanesFull),
-        _ => Ok(()),
-    }
-}
-
-/// Prints what comes of a session's start of a call.
-fn print_start(
-    out: &mut Vec<u8>,
-    session: u32,
-    named: Option<u8>,
-    outcome: Outcome,
-) -> Result<(), Stop>
-    ensures ok { OnOk result (out.new.items
-        ≡ out.old.items ++ start_text session named outcome) }
-    ensures want { IfErr result (λ stop. stop ≡ Stop.OutOfMemory) }
-{
-    match outcome {
-        Outcome::Busy => print(out, EventLine::Busy { session }),
-        Outcome::Closed => print(out, EventLine::Closed { session }),
-        Outcome::NoLane => match named {
-            Some(lane) => print(out, EventLine::NoLane { lane }),
-            None => Ok(()),
-        },
-        _ => Ok(()),
-    }
 }
 
 /// Whether a count of actions ends with this outcome.
@@ -319,6 +234,7 @@ impl Player {
         tally(&mut counts, outcome, self.made_get(outcome), refused);
         self.counts = counts;
     }
+
     /// A session whose call the last event has moved loads the deed that it waits for.
     fn refresh<M: Memory>(
         &mut self,
@@ -345,6 +261,7 @@ impl Player {
         };
         print_load(out, outcome)
     }
+
     /// A session whose call the last event has moved loads the deed that it waits for, until it waits for none.
     fn load<M: Memory>(&mut self, mem: &mut M, out: &mut Vec<u8>, session: u32) -> Result<(), Stop>
         requires can { CanGo (M.words mem.old) self.old out.old.items (IsMoved session) }
@@ -365,6 +282,7 @@ impl Player {
         }
         Ok(())
     }
+
     /// Prints a call that was made: its receipt is the last that has come.
     fn print_receipt(&self, out: &mut Vec<u8>, session: u32, number: u32) -> Result<(), Stop>
         ensures ok { OnOk result (out.new.items ≡ out.old.items
@@ -490,6 +408,7 @@ impl Player {
             Err(stop) => Err(stop),
         }
     }
+
     /// The merger of a lane makes its next action.
     fn merge<M: Memory>(
         &mut self,
@@ -591,6 +510,7 @@ impl Player {
             Err(stop) => Err(stop),
         }
     }
+
     /// A session starts a call, and loads its deed where it knows no route.
     fn start<M: Memory>(
         &mut self,
@@ -685,6 +605,7 @@ impl Player {
         }
         Ok(())
     }
+
     /// A session loads the deed that its call waits for, as the next event of its line.
     fn reload<M: Memory>(
         &mut self,
