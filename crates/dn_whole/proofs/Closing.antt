@@ -116,10 +116,10 @@ reports_of words told w counts waiting count old mid both new tail history once 
 
 -- ---- it stops
 pub leaves_now : (w : World) (lines : List Line) (words : List ℕ) (p : Player) (old : List ℕ) (r : Run) (now : List ℕ) → IsAt w lines words p old r → now ≡ words → Leaves r now
-leaves_now w lines words p old r now at same = record { es = []; words = words_at w lines words p old r at ∙ sym same }
+leaves_now w lines words p old r now at same = record { lanes = 0; es = []; merges = refl; words = words_at w lines words p old r at ∙ sym same }
 
 pub leaves_drained : (r : Run) (n : ℕ) (now : List ℕ) → IsDrained r n now → Leaves r now
-leaves_drained r n now h = record { es = h.es; words = h.words }
+leaves_drained r n now h = record { lanes = n; es = h.es; merges = h.merges; words = h.words }
 
 -- ---- what comes where all went well
 pub on_done : {T E P Q : Type 0} (result : Result T E) → (P → Q) → OnOk result P → OnOk result Q

@@ -117,7 +117,7 @@ stops_lines script before words now p q out new ls stop.Long h is short halts = 
 stops_lines script before words now p q out new ls stop.Pool h is short halts = tt
 stops_lines script before words now p q out new ls stop.OutOfMemory h is short halts =
     let l = halts.is (first words p) script.lines (run_from script words p) (at_first script before words p out h) (follows_first script words p ls is) in
-    inr (record { run = after_steps l.count (run_from script words p); moment = moment_of script before words p out l.count h; es = []; words = l.words })
+    inr (record { run = after_steps l.count (run_from script words p); moment = moment_of script before words p out l.count h; leaves = record { lanes = 0; es = []; merges = refl; words = l.words } })
 
 pub stops_close : (script : Script) (before words now fin : List ℕ) (p q : Player) (out new : List ℕ) (why : Stop) → IsOpen script before words p out → Reached (first words p) script.lines now q new (run_from script words p) [] → StopsClose now q new fin why
     → StopsPlay script before fin why
@@ -126,4 +126,4 @@ stops_close script before words now fin p q out new why h reached stops =
       by : (why : Stop) → Stops (after_steps reached.count (run_from script words p)) fin why → StopsPlay script before fin why
       by stop.Long s = s
       by stop.Pool s = tt
-      by stop.OutOfMemory s = inr (record { run = after_steps reached.count (run_from script words p); moment = moment_of script before words p out reached.count h; es = s.es; words = s.words })
+      by stop.OutOfMemory s = inr (record { run = after_steps reached.count (run_from script words p); moment = moment_of script before words p out reached.count h; leaves = s })

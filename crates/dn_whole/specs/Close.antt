@@ -74,7 +74,9 @@ Ends r now out IndexFull = IsIndexFull r now out
 
 -- or stops: the words are those after some actions of mergers
 pub record Leaves (r : Run) (now : List ℕ) : Type 0 where
+  pub lanes : ℕ
   pub es : List (Event × List ℕ)
+  pub merges : AreMerges lanes es
   pub words : (after r.world es).machine.words ≡ now
 
 abbrev pub Stops : Run → List ℕ → Stop → Type 0

@@ -1,8 +1,6 @@
 use Rattle.std.specs.Prelude.{◌≡◌, ◌≤◌, ◌^◌, ◌+◌, ℕ, List, [], length, ◌⊎◌}
 use Rattle.dn_callers.specs.Callers.{Standing}
 use Rattle.dn_drain.specs.Drained.{IsFull}
-use Rattle.dn_outcomes.specs.Runs.{after}
-use Rattle.dn_outcomes.specs.declared.events.Event.{Event}
 use Rattle.dn_play.specs.At.{HasNext}
 use Rattle.dn_play.specs.declared.stops.Stop.{Stop}
 use Rattle.dn_play.specs.declared.stops.Stop.TheVariants as stop
@@ -13,7 +11,7 @@ use Rattle.dn_run.specs.Text.{events_text}
 use Rattle.dn_script.specs.declared.scripts.Script.{Script}
 use Rattle.dn_world2.specs.Opening.{IsOpened}
 use Rattle.dn_world2.specs.State.{WorldState, world_of}
-use Rattle.dn_whole.specs.Close.{IsDrained, AreMerged}
+use Rattle.dn_whole.specs.Close.{IsDrained, AreMerged, Leaves}
 use Rattle.dn_whole.specs.declared.ends.End.{End}
 use Rattle.dn_whole.specs.declared.ends.End.TheVariants.{Done, Long, IndexFull}
 
@@ -72,12 +70,11 @@ Plays script before now out Done = IsPlayed script before now out
 Plays script before now out Long = IsLong script before now out
 Plays script before now out IndexFull = IsFullAtEnd script before now out
 
--- ---- or stops: the words are untouched, or those of a moment after some events
+-- ---- or stops: the words are untouched, or those of a moment after some actions of mergers
 pub record LeavesMoment (script : Script) (before now : List ℕ) : Type 0 where
   pub run : Run
   pub moment : IsMoment script before run
-  pub es : List (Event × List ℕ)
-  pub words : (after run.world es).machine.words ≡ now
+  pub leaves : Leaves run now
 
 abbrev pub StopsPlay : Script → List ℕ → List ℕ → Stop → Type 0
 StopsPlay script before now stop.Long = ⊥
