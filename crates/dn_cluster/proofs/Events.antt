@@ -9,10 +9,10 @@ use Rattle.dn_store.specs.State.{with_at}
 use Rattle.dn_merge.specs.Merge.{Merging}
 use Rattle.dn_route.specs.CallersOrder.{Told}
 use Rattle.dn_route.specs.SessionState.{SessionState, heard}
-use Rattle.dn_lane2.specs.Next.{next_of}
-use Rattle.dn_lane2.specs.State.{LaneState}
-use Rattle.dn_lane2.specs.Turns.{turn_of, left_of}
-use Rattle.dn_lane2.specs.declared.answers.Turn.{Turn}
+use Rattle.dn_lane.specs.Next.{next_of}
+use Rattle.dn_lane.specs.State.{LaneState}
+use Rattle.dn_lane.specs.Turns.{turn_of, left_of}
+use Rattle.dn_lane.specs.declared.answers.Turn.{Turn}
 use Rattle.dn_lanes.specs.Stepped.{receipt_by}
 use Rattle.dn_callers.specs.Callers.{Standing}
 use Rattle.dn_callers.specs.Sessions.{IsSession}

@@ -7,12 +7,12 @@ use Rattle.dn_model.specs.Register.{may_write}
 use Rattle.dn_route.specs.CallersOrder.{Told}
 use Rattle.dn_merge.specs.Merge.{Merging, started, merge_next}
 use Rattle.dn_monitor.specs.Monitor.{Monitoring, monitor_next}
-use Rattle.dn_lane2.specs.Asked.{view_in}
-use Rattle.dn_lane2.specs.Next.{next_of}
-use Rattle.dn_lane2.specs.State.{LaneState}
-use Rattle.dn_lane2.specs.Taken.{taken_by}
-use Rattle.dn_lane2.specs.Turns.{turn_of}
-use Rattle.dn_lane2.specs.declared.asked.Asked.{Asked}
+use Rattle.dn_lane.specs.Asked.{view_in}
+use Rattle.dn_lane.specs.Next.{next_of}
+use Rattle.dn_lane.specs.State.{LaneState}
+use Rattle.dn_lane.specs.Taken.{taken_by}
+use Rattle.dn_lane.specs.Turns.{turn_of}
+use Rattle.dn_lane.specs.declared.asked.Asked.{Asked}
 use Rattle.dn_lanes.specs.Stepped.{receipt_by, IsOfCall}
 use Rattle.dn_beside.specs.Pool.{Pool}
 use Rattle.dn_callers.specs.Callers.{Callers, Standing}

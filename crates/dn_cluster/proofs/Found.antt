@@ -13,15 +13,15 @@ use Rattle.dn_hist.specs.declared.receipts.Receipt.{Receipt}
 use Rattle.dn_model.specs.Regions.{gate, deed, slot_of, deed_at, gate_at, IsLane}
 use Rattle.dn_merge.specs.Merge.{Merging, merge_next, Meets}
 use Rattle.dn_plan.specs.Plan.{is_owner}
-use Rattle.dn_lane2.specs.Asked.{call_in, view_in}
-use Rattle.dn_lane2.specs.CallCauses.{CallCause}
-use Rattle.dn_lane2.specs.declared.answers.Answer.TheVariants.{NotOwner}
-use Rattle.dn_lane2.specs.Next.{next_of}
-use Rattle.dn_lane2.specs.State.{LaneState}
-use Rattle.dn_lane2.specs.Taken.{Taken, taken_by}
-use Rattle.dn_lane2.specs.Turns.{turn_of}
-use Rattle.dn_lane2.specs.declared.answers.Turn.{Turn}
-use Rattle.dn_lane2.specs.declared.asked.Asked.{Asked}
+use Rattle.dn_lane.specs.Asked.{call_in, view_in}
+use Rattle.dn_lane.specs.CallCauses.{CallCause}
+use Rattle.dn_lane.specs.declared.answers.Answer.TheVariants.{NotOwner}
+use Rattle.dn_lane.specs.Next.{next_of}
+use Rattle.dn_lane.specs.State.{LaneState}
+use Rattle.dn_lane.specs.Taken.{Taken, taken_by}
+use Rattle.dn_lane.specs.Turns.{turn_of}
+use Rattle.dn_lane.specs.declared.answers.Turn.{Turn}
+use Rattle.dn_lane.specs.declared.asked.Asked.{Asked}
 use Rattle.dn_owners.specs.Sound.{bound_by}
 use Rattle.dn_turns.specs.Knows.{IsMergerAt}
 use Rattle.dn_turns.proofs.Fits.{fits}
@@ -51,8 +51,8 @@ use Rattle.dn_cluster.proofs.Within.{merger_within}
 
 -- What a sound machine says of an action, and of the word that it finds.
 
-pub sized : (words : List ℕ) (c : ClusterState) → CanBeSound words c → length words ≡ pool_size c.segments
-sized words c h = ap length (sym h.sound.at.words) ∙ h.sound.at.whole.represents.table.size ∙ ap pool_size h.sound.pool
+pub sized : (words : List ℕ) (c : ClusterState) → CanBeSound words c → pool_size c.segments ≤ length words
+sized words c h = omega (arith, ap length (sym h.sound.at.words), h.sound.at.whole.represents.table.size, h.sound.pool)
 
 -- ---- lanes
 floor_low : (word : ℕ) → (deed_of word).floor < 2 ^ 31

@@ -9,10 +9,10 @@ use Rattle.dn_tend.specs.declared.tasks.Task.{Task}
 use Rattle.dn_merge.specs.Merge.{Merging, started}
 use Rattle.dn_route.specs.CallersOrder.{Told, told_now}
 use Rattle.dn_route.specs.SessionState.{SessionState, opened, numbered as counted, heard}
-use Rattle.dn_lane2.specs.Asked.{view_in}
-use Rattle.dn_lane2.specs.State.{LaneState, fresh, begun, begun_task, halted}
-use Rattle.dn_lane2.specs.declared.asked.Asked.{Asked}
-use Rattle.dn_lane2.specs.declared.asked.Asked.TheVariants as asked
+use Rattle.dn_lane.specs.Asked.{view_in}
+use Rattle.dn_lane.specs.State.{LaneState, fresh, begun, begun_task, halted}
+use Rattle.dn_lane.specs.declared.asked.Asked.{Asked}
+use Rattle.dn_lane.specs.declared.asked.Asked.TheVariants as asked
 use Rattle.dn_callers.specs.Callers.{Standing}
 use Rattle.dn_callers.specs.Changes.{closed_at}
 use Rattle.dn_callers.specs.Sessions.{IsSession}
@@ -206,9 +206,6 @@ stopped_stays_at : (c : ClusterState) (n : ℕ) → lane_in (numbered c.nodes n)
 stopped_stays_at c n none words told receipts =
     let m : Machine = machine_of words c told receipts in sym (ap (λ (o : Option LaneState). of_lane m o (λ l. lane_stops m n l None)) none)
 
-pub stopped_stays : (c : ClusterState) (n : ℕ) → lane_in (numbered c.nodes n) ≡ None → Does c c (Stops n)
-stopped_stays c n none = record { is = stopped_stays_at c n none }
-
 stops_by : (c : ClusterState) (n at : ℕ) (r : RunsAt c n at) (words : List ℕ) (told : List Told) (receipts : List Standing)
     → machine_of words (with_node c at (stopped_node r.node)) told receipts ≡ with_lane (machine_of words c told receipts) n None
 stops_by c n at r words told receipts = node_parts words words c n at (node_of c n at r) (stopped_node r.node) None told receipts receipts (stopped_is (stopped_node r.node) refl) refl refl
@@ -306,6 +303,3 @@ rests_at segments clients h words = same_machine _ _ (record {
   receipts = refl;
   loads = λ s. (fresh_session clients s h).2;
 })
-
-pub rests_so : (segments : ℕ) (clients : List Client) → AreFresh 1000 clients → Rests (starting segments clients)
-rests_so segments clients h = record { is = rests_at segments clients h }

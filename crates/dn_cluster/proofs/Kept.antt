@@ -6,15 +6,15 @@ use Rattle.dn_hist.specs.Receipt.{position_cmp}
 use Rattle.dn_hist.specs.declared.calls.Call.{Call}
 use Rattle.dn_hist.specs.declared.receipts.SessionView.{SessionView}
 use Rattle.dn_tend.specs.declared.tasks.Task.{Task}
-use Rattle.dn_lane2.specs.Fit.{SameLane}
-use Rattle.dn_lane2.specs.State.{LaneState, begun, begun_task}
-use Rattle.dn_lane2.specs.Taken.{Taken, taken_by}
-use Rattle.dn_lane2.specs.Turns.{left_of, left_going}
-use Rattle.dn_lane2.specs.declared.answers.Refuse.{Refuse}
-use Rattle.dn_lane2.specs.declared.asked.Asked.{Asked}
-use Rattle.dn_lane2.specs.declared.asked.Asked.TheVariants as asked
-use Rattle.dn_lane2.specs.declared.modes.Going.{Going}
-use Rattle.dn_lane2.specs.declared.modes.Going.TheVariants.{On, End}
+use Rattle.dn_lane.specs.Fit.{SameLane}
+use Rattle.dn_lane.specs.State.{LaneState, begun, begun_task}
+use Rattle.dn_lane.specs.Taken.{Taken, taken_by}
+use Rattle.dn_lane.specs.Turns.{left_of, left_going}
+use Rattle.dn_lane.specs.declared.answers.Refuse.{Refuse}
+use Rattle.dn_lane.specs.declared.asked.Asked.{Asked}
+use Rattle.dn_lane.specs.declared.asked.Asked.TheVariants as asked
+use Rattle.dn_lane.specs.declared.modes.Going.{Going}
+use Rattle.dn_lane.specs.declared.modes.Going.TheVariants.{On, End}
 use Rattle.dn_callers.specs.Sessions.{IsSession}
 use Rattle.dn_machine.proofs.Calls.{SameCall, taken_same}
 use Rattle.dn_monitor.specs.Monitor.{Monitoring}
@@ -47,16 +47,6 @@ client_kept c at y h own = record {
   nodes = h.nodes;
   clients = each_set (λ k x. IsClient x) c.clients at y h.clients own;
   order = h.order;
-}
-
-pub order_kept : (c : ClusterState) (o : Option Monitoring) → IsCluster c → ((x : Monitoring) → o ≡ Some x → x.place ≢ Done) → IsCluster (record c { monitor = o })
-order_kept c o h own = record {
-  segments = h.segments;
-  lanes = h.lanes;
-  sessions = h.sessions;
-  nodes = h.nodes;
-  clients = h.clients;
-  order = own;
 }
 
 pub push_kept : (c : ClusterState) (v : Node) → IsCluster c → length c.nodes < 63 → IsNode c.segments (length c.nodes) v → IsCluster (record c { nodes = c.nodes ++ v ∷ [] })

@@ -22,7 +22,7 @@ its_store segments x o action is next some = same_Some action (format_of segment
 pub stored : (segments : ℕ) (words now : List ℕ) (action : Action) (word : ℕ) → action ≡ format_of segments → Performs action word words now → now ≡ words_after (format_of segments) words
 stored segments words now action word is does = does.change ∙ ap (λ (a : Action). words_after a words) is
 
-pub formatted : (c : ClusterState) (words now : List ℕ) (action : Action) (word : ℕ) → c.segments ≤ 8192 → length words ≡ pool_size c.segments → action ≡ format_of c.segments → Performs action word words now → IsZeros words → Rests c
+pub formatted : (c : ClusterState) (words now : List ℕ) (action : Action) (word : ℕ) → c.segments ≤ 8192 → pool_size c.segments ≤ length words → action ≡ format_of c.segments → Performs action word words now → IsZeros words → Rests c
     → IsSound c.segments (machine_of now c [] [])
 formatted c words now action word most size is does zeros rests =
     let after : now ≡ words_after (format_of c.segments) words = stored c.segments words now action word is does in

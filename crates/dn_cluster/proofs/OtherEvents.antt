@@ -12,9 +12,9 @@ use Rattle.dn_merge.specs.Merge.{Merging, started, merge_next, merge_after}
 use Rattle.dn_monitor.specs.Monitor.{Monitoring, monitor_next}
 use Rattle.dn_route.specs.CallersOrder.{Told}
 use Rattle.dn_route.specs.SessionState.{SessionState, refreshed}
-use Rattle.dn_lane2.specs.Next.{next_of}
-use Rattle.dn_lane2.specs.State.{LaneState}
-use Rattle.dn_lane2.specs.Turns.{flowed_of}
+use Rattle.dn_lane.specs.Next.{next_of}
+use Rattle.dn_lane.specs.State.{LaneState}
+use Rattle.dn_lane.specs.Turns.{flowed_of}
 use Rattle.dn_callers.specs.Callers.{Standing}
 use Rattle.dn_machine.specs.State.{Machine}
 use Rattle.dn_machine.specs.Events.{Lane, Merger, Monitor, Session, Event, Acts, Flows, Fails, FlowFails, found, acted, acted_if, with_lane, lane_flows, lane_fails, flow_fails, of_lane, of_merger, with_merger, monitor_does, monitor_fails, of_monitor, ordered, loaded, happens}
@@ -132,11 +132,6 @@ monitor_acts_so words now c d x word action is next does after segments = record
 pub monitor_rests : (words : List ℕ) (c : ClusterState) → c.monitor ≡ None → Happens words c words c [] (Acts Monitor)
 monitor_rests words c none = nothing_happens words c (Acts Monitor) (λ told receipts. tt)
     (λ told receipts. let m : Machine = machine_of words c told receipts in ap (λ (o : Option Monitoring). of_monitor m o (λ y. monitor_does m y (monitor_next y))) none)
-
-pub monitor_idles : (words : List ℕ) (c : ClusterState) (x : Monitoring) → c.monitor ≡ Some x → monitor_next x ≡ None → Happens words c words c [] (Acts Monitor)
-monitor_idles words c x is none = nothing_happens words c (Acts Monitor) (λ told receipts. tt)
-    (λ told receipts. let m : Machine = machine_of words c told receipts in
-    ap (λ (o : Option Monitoring). of_monitor m o (λ y. monitor_does m y (monitor_next y))) is ∙ ap (λ (o : Option Action). monitor_does m x o) none)
 
 -- ---- a session that loads a deed
 abbrev pub routed_client : Client → ℕ → ℕ → Client

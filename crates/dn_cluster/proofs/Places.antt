@@ -1,6 +1,6 @@
 use Rattle.std.proofs.Common.{ℕ, zero, suc, ◌+◌, ◌-◌, ◌<◌, ◌≤◌, ◌≡◌, inl, inr, Bool, true, false, List, Option, Some, None, length, slice_get, get_or, if◌then◌else◌, refl, sym, ◌∙◌, ap, subst, arith}
 use Rattle.std.proofs.lemmas.Option.{none-some, same_Some, slice_get_cases, slice_get_read, slice_get_within, slice_get_past}
-use Rattle.dn_lane2.specs.State.{LaneState}
+use Rattle.dn_lane.specs.State.{LaneState}
 use Rattle.dn_callers.specs.Sessions.{IsSession}
 use Rattle.dn_cluster.specs.State.{ClusterState, numbered}
 use Rattle.dn_cluster.specs.Machine.{lane_in, merger_in, Runs, IsMade}

@@ -2,9 +2,9 @@ use Rattle.std.proofs.Common.{ℕ, ◌≡◌, ◌<◌, ◌^◌, Option, Some, No
 use Rattle.std.proofs.lemmas.List.{length-set}
 use Rattle.std.proofs.lemmas.Option.{same_Some, slice_get_within, slice_get_read}
 use Rattle.dn_word.specs.declared.positions.Position.{Position}
-use Rattle.dn_lane2.specs.State.{LaneState}
-use Rattle.dn_lane2.specs.Turns.{turn_of, left_of}
-use Rattle.dn_lane2.specs.declared.answers.Turn.{Turn}
+use Rattle.dn_lane.specs.State.{LaneState}
+use Rattle.dn_lane.specs.Turns.{turn_of, left_of}
+use Rattle.dn_lane.specs.declared.answers.Turn.{Turn}
 use Rattle.dn_callers.specs.Sessions.{IsSession}
 use Rattle.dn_cluster.specs.State.{ClusterState, numbered}
 use Rattle.dn_cluster.specs.Asks.{TakesAt}

@@ -14,12 +14,12 @@ use Rattle.dn_merge.specs.Merge.{Merging, merge_next, merge_turn}
 use Rattle.dn_monitor.specs.Monitor.{Monitoring, monitor_next, monitor_turn}
 use Rattle.dn_monitor.specs.declared.orders.MonitorAnswer.TheVariants.{Formatted}
 use Rattle.dn_monitor.specs.declared.orders.MonitorTurn.TheVariants.{Answered}
-use Rattle.dn_lane2.specs.Asked.{call_in}
-use Rattle.dn_lane2.specs.Next.{next_of}
-use Rattle.dn_lane2.specs.State.{LaneState}
-use Rattle.dn_lane2.specs.Turns.{turn_of}
-use Rattle.dn_lane2.specs.declared.answers.Turn.TheVariants.{More, Done}
-use Rattle.dn_lane2.specs.declared.answers.Answer.TheVariants.{NotOwner}
+use Rattle.dn_lane.specs.Asked.{call_in}
+use Rattle.dn_lane.specs.Next.{next_of}
+use Rattle.dn_lane.specs.State.{LaneState}
+use Rattle.dn_lane.specs.Turns.{turn_of}
+use Rattle.dn_lane.specs.declared.answers.Turn.TheVariants.{More, Done}
+use Rattle.dn_lane.specs.declared.answers.Answer.TheVariants.{NotOwner}
 use Rattle.dn_lanes.specs.Stepped.{receipt_by}
 use Rattle.dn_callers.specs.Callers.{Standing}
 use Rattle.dn_machine.specs.Events.{Actor as Acting, Lane as ALane, Merger as AMerger, Monitor as AMonitor, Session as ASession}

@@ -2,10 +2,10 @@ use Rattle.std.specs.Prelude.{◌≡◌, ◌<◌, ◌+◌, ◌^◌, ℕ, false, 
 use Rattle.dn_word.specs.declared.positions.Position.{Position}
 use Rattle.dn_hist.specs.declared.receipts.Receipt.{Receipt}
 use Rattle.dn_route.specs.SessionState.{opened}
-use Rattle.dn_lane2.specs.Refused.{refusal_of}
-use Rattle.dn_lane2.specs.State.{LaneState}
-use Rattle.dn_lane2.specs.Turns.{turn_of, ending_of}
-use Rattle.dn_lane2.specs.declared.answers.Refuse.{Refuse}
+use Rattle.dn_lane.specs.Refused.{refusal_of}
+use Rattle.dn_lane.specs.State.{LaneState}
+use Rattle.dn_lane.specs.Turns.{turn_of, ending_of}
+use Rattle.dn_lane.specs.declared.answers.Refuse.{Refuse}
 use Rattle.dn_callers.specs.Sessions.{IsSession}
 use Rattle.dn_cluster.specs.State.{ClusterState, numbered}
 use Rattle.dn_cluster.specs.Machine.{lane_in}

@@ -2,7 +2,7 @@ use Rattle.std.specs.Prelude.{ℕ, ◌-◌, Option, Some, None, slice_set}
 use Rattle.dn_word.specs.declared.positions.Position.{Position}
 use Rattle.dn_hist.specs.declared.receipts.Receipt.{Receipt}
 use Rattle.dn_route.specs.SessionState.{heard}
-use Rattle.dn_lane2.specs.declared.answers.Turn.{Turn}
+use Rattle.dn_lane.specs.declared.answers.Turn.{Turn}
 use Rattle.dn_lanes.specs.Stepped.{receipt_by}
 use Rattle.dn_cluster.specs.State.{ClusterState, numbered}
 use Rattle.dn_cluster.specs.declared.nodes.Node.{Node}

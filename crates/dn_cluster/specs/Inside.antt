@@ -1,8 +1,8 @@
 use Rattle.std.specs.Prelude.{◌≡◌, ◌≢◌, ◌<◌, ◌≤◌, ◌+◌, ◌^◌, ℕ, Some, length, slice_get}
 use Rattle.dn_monitor.specs.Monitor.{Monitoring}
 use Rattle.dn_monitor.specs.declared.places.MonitorPlace.TheVariants.{Done}
-use Rattle.dn_lane2.specs.declared.asked.Asked.{Asked}
-use Rattle.dn_lane2.specs.declared.asked.Asked.TheVariants as asked
+use Rattle.dn_lane.specs.declared.asked.Asked.{Asked}
+use Rattle.dn_lane.specs.declared.asked.Asked.TheVariants as asked
 use Rattle.dn_callers.specs.Sessions.{IsSession}
 use Rattle.dn_cluster.specs.State.{ClusterState}
 use Rattle.dn_cluster.specs.declared.nodes.Node.{Node}

@@ -1,5 +1,5 @@
 use Rattle.std.specs.Prelude.{◌≡◌, ◌≤◌, ℕ, false, Bool, List, Option, Some, None, if◌then◌else◌, length}
-use Rattle.dn_lane2.specs.State.{LaneState}
+use Rattle.dn_lane.specs.State.{LaneState}
 use Rattle.dn_merge.specs.Merge.{Merging}
 use Rattle.dn_route.specs.SessionState.{SessionState, opened}
 use Rattle.dn_route.specs.CallersOrder.{Told}

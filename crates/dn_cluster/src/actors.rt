@@ -1,6 +1,6 @@
 //! Who acts on the words of a pool, and what came of it.
 
-use dn_lane2::Turn;
+use dn_lane::Turn;
 use dn_merge::MergeTurn;
 use dn_monitor::MonitorTurn;
 

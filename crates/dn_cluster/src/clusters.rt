@@ -7,10 +7,10 @@ ghost use Rattle.dn_tend.specs.Fit.{FitsTask};
 ghost use Rattle.dn_monitor.specs.Monitor.{Monitoring, monitor_turn, IsOrder};
 ghost use Rattle.dn_monitor.specs.Heirs.{AreHeirs};
 ghost use Rattle.dn_route.specs.SessionState.{view_of, refreshed};
-ghost use Rattle.dn_lane2.specs.CallCauses.{CallCause};
-ghost use Rattle.dn_lane2.specs.State.{LaneState, halted};
-ghost use Rattle.dn_lane2.specs.Refused.{Refuses};
-ghost use Rattle.dn_lane2.specs.Turns.{turn_of, left_of, flowed_of, ending_of};
+ghost use Rattle.dn_lane.specs.CallCauses.{CallCause};
+ghost use Rattle.dn_lane.specs.State.{LaneState, halted};
+ghost use Rattle.dn_lane.specs.Refused.{Refuses};
+ghost use Rattle.dn_lane.specs.Turns.{turn_of, left_of, flowed_of, ending_of};
 ghost use Rattle.dn_act.specs.Action.{MayPerform, words_after};
 ghost use Rattle.dn_act.specs.Words.{IsZeros, pool_size};
 ghost use Rattle.dn_machine.specs.Sound.{IsSound};
@@ -29,7 +29,7 @@ use crate::clients::Client;
 use crate::nodes::Node;
 use dn_act::{Action, Memory, exec};
 use dn_hist::{Call, Receipt, SessionView};
-use dn_lane2::{Answer, Lane, Refuse, Turn};
+use dn_lane::{Answer, Lane, Refuse, Turn};
 use dn_merge::Merger;
 use dn_monitor::{Monitor, MonitorTurn, Order};
 use dn_route::Session;
@@ -138,7 +138,7 @@ impl Cluster {
     /// store. Where all words are 0 and no call but `new` was made before, all is sound then, with no receipts and nothing
     /// told. `Fault` comes exactly where the access failed, and the store was done or not done.
     pub fn format<M: Memory>(&self, mem: &mut M) -> Acted
-        requires { length (M.words mem.old) ≡ pool_size self.now.segments }
+        requires { pool_size self.now.segments ≤ length (M.words mem.old) }
         ensures sound { OnDone result (IsZeros (M.words mem.old) → Rests self.now
             → IsSound self.now.segments (machine_of (M.words mem.new) self.now [] [])) }
         ensures words { OnDone result (M.words mem.new

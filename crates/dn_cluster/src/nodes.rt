@@ -1,4 +1,4 @@
-use dn_lane2::Lane;
+use dn_lane::Lane;
 use dn_merge::Merger;
 
 /// A lane with its merger. Of a lane that was stopped the merger goes on.

@@ -16,14 +16,14 @@ use Rattle.dn_route.specs.SessionState.{view_of}
 use Rattle.dn_route.specs.CallersOrder.{Told}
 use Rattle.dn_callers.specs.Callers.{Standing}
 use Rattle.dn_callers.specs.Sessions.{IsSession, IsUnderWay}
-use Rattle.dn_lane2.specs.Asked.{view_in}
-use Rattle.dn_lane2.specs.Refused.{refused_by}
-use Rattle.dn_lane2.specs.State.{LaneState}
-use Rattle.dn_lane2.specs.declared.answers.Refuse.{Refuse}
-use Rattle.dn_lane2.specs.declared.asked.Asked.{Asked}
-use Rattle.dn_lane2.specs.declared.asked.Asked.TheVariants as asked
-use Rattle.dn_lane2.specs.declared.modes.Mode.{Mode}
-use Rattle.dn_lane2.specs.declared.modes.Mode.TheVariants as mode
+use Rattle.dn_lane.specs.Asked.{view_in}
+use Rattle.dn_lane.specs.Refused.{refused_by}
+use Rattle.dn_lane.specs.State.{LaneState}
+use Rattle.dn_lane.specs.declared.answers.Refuse.{Refuse}
+use Rattle.dn_lane.specs.declared.asked.Asked.{Asked}
+use Rattle.dn_lane.specs.declared.asked.Asked.TheVariants as asked
+use Rattle.dn_lane.specs.declared.modes.Mode.{Mode}
+use Rattle.dn_lane.specs.declared.modes.Mode.TheVariants as mode
 use Rattle.dn_lanes.specs.Calls.{IsCall}
 use Rattle.dn_machine.specs.State.{Machine}
 use Rattle.dn_machine.specs.Events.{Event, Asks, Orders, Adds, Numbers}

@@ -1,6 +1,10 @@
-pub mod SealedLemmas
-pub mod StagedLemmas
-pub mod CauseLemmas
-pub mod SequenceLaws
-pub mod FetchedLemmas
-pub mod CallLaws
+pub mod StepLemmas
+pub mod FlowLemmas
+pub mod ServiceRuns
+pub mod CallRuns
+pub mod TaskKeys
+pub mod TaskRuns
+pub mod BeginLaws
+pub mod CallCauseLaws
+pub mod EndingLaws
+pub mod TaskCauseLaws

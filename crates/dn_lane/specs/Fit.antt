@@ -1,60 +1,49 @@
-use Rattle.std.specs.Prelude.{◌≡◌, ◌^◌, ◌<◌, ℕ, List, [], length, All, Option, Some, None, false, true}
-use Rattle.dn_act.specs.Words.{pool_size}
-use Rattle.dn_log.specs.Log.{Log, plan_of}
-use Rattle.dn_log.specs.declared.claims.Claim.{Claim}
-use Rattle.dn_log.specs.declared.claims.Claim.TheVariants.{Reading, Taking}
-use Rattle.dn_log.specs.declared.staging.Staged.{Staged}
-use Rattle.dn_locate.specs.Fetch.{is_under_way, fetch_next}
-use Rattle.dn_act.specs.Action.{at_of}
-use Rattle.dn_lane.specs.Spelled.{record_words, IsWrite}
-use Rattle.dn_lane.specs.Staged.{AreWithin}
-use Rattle.dn_lane.specs.State.{LaneState}
-use Rattle.dn_lane.specs.declared.logged.Sealed.{Sealed}
-use Rattle.dn_lane.specs.declared.places.Place.{Place}
-use Rattle.dn_lane.specs.declared.places.Place.TheVariants as at
-use Rattle.dn_lane.specs.declared.places.Work.{Work}
+use Rattle.std.specs.Prelude.{◌≡◌, ◌≤◌, [], true, false}
+use Rattle.dn_log.specs.Log.{plan_of}
+use Rattle.dn_ask.specs.Ask.{record_in}
+use Rattle.dn_ask.specs.Fit.{FitsAct, FitsLocate, FitsRoom, FitsSeal, FitsEnd}
+use Rattle.dn_ask.specs.Rank.{records_act, records_locate, records_room, records_seal, has_room_act}
+use Rattle.dn_find.specs.Fit.{FitsFind}
+use Rattle.dn_known.specs.State.{KnownState}
+use Rattle.dn_services.specs.Room.{IsClaimFor}
+use Rattle.dn_services.specs.Sealing.{IsSealing}
+use Rattle.dn_lane.specs.Asked.{brief_of, words_in, MaySeal}
+use Rattle.dn_lane.specs.Taken.{sealing_by}
+use Rattle.dn_lane.specs.declared.asked.Asked.{Asked}
+use Rattle.dn_lane.specs.declared.base.Base.{Base}
+use Rattle.dn_lane.specs.declared.modes.Going.{Going}
+use Rattle.dn_lane.specs.declared.modes.Going.TheVariants.{On, End}
+use Rattle.dn_lane.specs.declared.modes.Mode.{Mode}
+use Rattle.dn_lane.specs.declared.modes.Mode.TheVariants as mode
 
--- the words that wait are those of the record that is being sealed
-abbrev pub WaitsAt : List Staged → Place → Type 0
-WaitsAt staged at.Look = staged ≡ []
-WaitsAt staged (at.Fetch floor) = staged ≡ []
-WaitsAt staged (at.Gate floor located) = staged ≡ []
-WaitsAt staged (at.Raise located gate to) = staged ≡ []
-WaitsAt staged (at.Claim located gate to claim) = staged ≡ []
-WaitsAt staged (at.Seal located gate to) = Unit {0}
+-- The ranges of what a lane has, in each mode. Words wait to flow only where a record is sealed.
 
--- the claim is of this pool, for a log with so many segments and room for one
-abbrev pub ClaimsFor : Log → Claim → Type 0
-ClaimsFor log (Reading pool segments) = (pool ≡ log.pool) × (length log.segments < 256) × (log.spare ≡ None) × (segments ≡ length log.segments)
-ClaimsFor log (Taking pool segments) = (pool ≡ log.pool) × (length log.segments < 256) × (log.spare ≡ None) × (segments ≡ length log.segments)
+-- there is room for the record
+pub record HasRoom (k : KnownState) (a : Asked) : Type 0 where
+  pub reaches : (plan_of k.log (words_in a)).need_segment ≡ false
+  pub seals : MaySeal a
 
--- a segment of the pool, for a log that has no spare one and room for it
-abbrev pub IsSpareFor : Log → ℕ → Type 0
-IsSpareFor log segment = (log.spare ≡ None) × (length log.segments < 256) × (segment < log.pool)
+abbrev pub FitsMode : Base → Asked → Mode → Type 0
+FitsMode g a mode.Idle = g.staging ≡ []
+FitsMode g a (mode.Acting wait) =
+    (g.staging ≡ []) × FitsAct (brief_of g.known.log.lane a) wait
+    × (records_act wait ≤ g.known.pending.spare) × (has_room_act wait ≡ true → HasRoom g.known a)
+FitsMode g a (mode.Finding wait find) =
+    (g.staging ≡ []) × FitsLocate (brief_of g.known.log.lane a) wait
+    × (records_locate wait ≤ g.known.pending.spare) × FitsFind g.fetch find
+FitsMode g a (mode.Claiming wait claim) =
+    (g.staging ≡ []) × FitsRoom (brief_of g.known.log.lane a) wait
+    × (records_room wait ≤ g.known.pending.spare) × IsClaimFor g.known.log claim
+FitsMode g a (mode.Sealing wait seal) =
+    FitsSeal (brief_of g.known.log.lane a) wait × (records_seal wait ≤ g.known.pending.spare) × IsSealing g.known seal g.staging
+    × (seal ≡ sealing_by a (record_in wait))
 
--- what the numbers of a place are within
-abbrev pub FitsAt : LaneState → Work → Place → Type 0
-FitsAt l k at.Look = Unit {0}
-FitsAt l k (at.Fetch floor) = (floor < 2 ^ 31) × (is_under_way l.fetch ≡ true) × (at_of (fetch_next l.fetch) < pool_size l.log.pool)
-FitsAt l k (at.Gate floor located) = floor < 2 ^ 31
-FitsAt l k (at.Raise located gate to) = to.stamp < 2 ^ 31
-FitsAt l k (at.Claim located gate to claim) = (to.stamp < 2 ^ 31) × IsWrite k.call × ClaimsFor l.log claim
-FitsAt l k (at.Seal located gate to) = (to.stamp < 2 ^ 31) × IsWrite k.call × ((plan_of l.log (record_words k.call)).need_segment ≡ false)
+abbrev pub FitsGoing : Base → Asked → Going → Type 0
+FitsGoing g a (On mode) = FitsMode g a mode
+FitsGoing g a (End end) = (g.staging ≡ []) × FitsEnd (brief_of g.known.log.lane a) end
 
--- what the numbers of a call are within
-pub record IsWork (l : LaneState) (k : Work) : Type 0 where
-  pub last : k.view.last.stamp < 2 ^ 31
-  pub place : FitsAt l k k.place
-  pub waits : WaitsAt l.staged k.place
-
-abbrev pub IsIdleOr : LaneState → Option Work → Type 0
-IsIdleOr l None = Unit {0}
-IsIdleOr l (Some k) = IsWork l k
-
--- the numbers of a lane are within their ranges, and words wait only while a record is being sealed
-pub record IsLane (l : LaneState) : Type 0 where
-  pub number : l.log.lane < 64
-  pub offsets : All (λ (s : Sealed). s.offset < 262144) l.sealed
-  pub within : AreWithin l.log.pool l.staged
-  pub work : IsIdleOr l l.work
-  pub idle : l.work ≡ None → l.staged ≡ []
+-- a lane keeps its number and its pool
+pub record SameLane (old new : Base) : Type 0 where
+  pub number : new.known.log.lane ≡ old.known.log.lane
+  pub pool : new.known.log.pool ≡ old.known.log.pool
+  pub fetch : new.fetch.segments ≡ old.fetch.segments

@@ -1,32 +1,37 @@
-use Rattle.std.specs.Prelude.{ℕ, ◌+◌, length, Option, Some, None}
-use Rattle.dn_log.specs.declared.claims.Claim.{Claim}
-use Rattle.dn_log.specs.declared.claims.Claim.TheVariants.{Reading, Taking}
-use Rattle.dn_locate.specs.Fetch.{fetch_left}
-use Rattle.dn_lane.specs.State.{LaneState}
-use Rattle.dn_lane.specs.Spelled.{record_words}
-use Rattle.dn_lane.specs.declared.places.Place.{Place}
-use Rattle.dn_lane.specs.declared.places.Place.TheVariants as at
-use Rattle.dn_lane.specs.declared.places.Work.{Work}
+use Rattle.std.specs.Prelude.{ℕ, ◌+◌, ◌*◌, Bool, true, false, length}
+use Rattle.dn_ask.specs.Rank.{rank_act, rank_locate, rank_room, rank_seal}
+use Rattle.dn_find.specs.Fit.{find_left}
+use Rattle.dn_services.specs.Room.{actions_in}
+use Rattle.dn_lane.specs.declared.base.Base.{Base}
+use Rattle.dn_lane.specs.declared.modes.Going.{Going}
+use Rattle.dn_lane.specs.declared.modes.Going.TheVariants.{On, End}
+use Rattle.dn_lane.specs.declared.modes.Mode.{Mode}
+use Rattle.dn_lane.specs.declared.modes.Mode.TheVariants as mode
 
--- a claim is a load and an add
-abbrev pub claim_left : Claim → ℕ
-claim_left (Reading pool segments) = 2
-claim_left (Taking pool segments) = 1
+-- A bound on the actions that are left: each rank of the plan counts 2^20, more than any service takes.
+abbrev pub mode_left : Base → Mode → ℕ
+mode_left g mode.Idle = 0
+mode_left g (mode.Acting wait) = rank_act wait * 1048576
+mode_left g (mode.Finding wait find) = rank_locate wait * 1048576 + find_left g.fetch find
+mode_left g (mode.Claiming wait claim) = rank_room wait * 1048576 + actions_in claim
+mode_left g (mode.Sealing wait seal) = rank_seal wait * 1048576 + length g.staging
 
--- a bound on the actions of a call from its place on, without the words that are staged: a seal is one action behind the
--- words of a record, of a directory and of a pad, and a fetch that follows all that it may takes 140 * 4096 + 140 loads
-abbrev pub left_at : LaneState → Work → Place → ℕ
-left_at l k at.Look = 600000 + record_words k.call
-left_at l k (at.Fetch floor) = 8 + record_words k.call + fetch_left l.fetch
-left_at l k (at.Gate floor located) = 7 + record_words k.call
-left_at l k (at.Claim located gate to claim) = 4 + record_words k.call + claim_left claim
-left_at l k (at.Raise located gate to) = 1
-left_at l k (at.Seal located gate to) = 1
+abbrev pub going_left : Base → Going → ℕ
+going_left g (On mode) = mode_left g mode
+going_left g (End end) = 0
 
-abbrev pub left_for : LaneState → Option Work → ℕ
-left_for l None = 0
-left_for l (Some k) = left_at l k k.place + length l.staged
+-- whether a plan is under way
+abbrev pub is_working : Mode → Bool
+is_working mode.Idle = false
+is_working (mode.Acting wait) = true
+is_working (mode.Finding wait find) = true
+is_working (mode.Claiming wait claim) = true
+is_working (mode.Sealing wait seal) = true
 
--- a bound on the actions of the call under way
-abbrev pub actions_left : LaneState → ℕ
-actions_left l = left_for l l.work
+-- whether a record is being sealed
+abbrev pub is_sealing : Mode → Bool
+is_sealing mode.Idle = false
+is_sealing (mode.Acting wait) = false
+is_sealing (mode.Finding wait find) = false
+is_sealing (mode.Claiming wait claim) = false
+is_sealing (mode.Sealing wait seal) = true

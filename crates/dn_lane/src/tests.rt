@@ -1,178 +1,116 @@
-//! Calls of lane 1 on key 5, whose slot is 3, in a pool of which no access fails.
+//! Lane 1 over a pool of which no access fails. Its gate stands at 65, its mark at 129, its directory at 1280. The keys 5
+//! and 13561 are in slot 3, whose deed stands at 195, and in bucket 222, at 34544. The words are worked out by hand.
 
-ghost use Rattle.std.specs.Prelude.{◌≡◌, ◌<◌, ◌^◌};
+ghost use Rattle.std.specs.Prelude.{◌≡◌};
+ghost use Rattle.dn_hist.specs.Calls.{key_of};
 
-use crate::answers::{Answer, Refuse, Turn, Way};
+mod answers;
+mod calls;
+mod seals;
+mod tasks;
+
+use crate::answers::{Answer, Refuse, Turn};
 use crate::lanes::Lane;
 use dn_act::{Action, Memory, Sound, exec};
-use dn_hist::{Call, Receipt, Reply, SessionView};
-use dn_word::{Position, Value};
+use dn_hist::{Call, Reply, SessionView};
+use dn_plan::Way;
+use dn_tend::{Task, TaskAnswer};
+use dn_word::{Position, Ref, Value};
 use std::process::Abort;
-use std::test::Fail;
 
-const GATE_AT: u32 = 65;
-
-const DEED_AT: u32 = 195;
-
+/// Slot 3 is owned by lane 1 in epoch 1, with floor 0.
 const OWNED: u64 = 0x4000008080000000;
 
-const ABSENT: [Action; 2] = [Action::Load { at: 195 }, Action::Load { at: 65 }];
+/// The header of a Put of one byte.
+const SHORT: u64 = 0x0100010000000300;
 
-const PUT: [Action; 9] = [
-    Action::Load { at: 195 },
-    Action::Load { at: 65 },
-    Action::Load { at: 1 },
-    Action::Add { at: 1, by: 1 },
-    Action::Store { at: 1280, word: 1 },
-    Action::Store {
-        at: 98304,
-        word: 0x0100010000000300,
-    },
-    Action::Store { at: 98305, word: 5 },
-    Action::Store {
-        at: 98306,
-        word: 0x61,
-    },
-    Action::Cas {
-        at: 65,
-        old: 0,
-        new: 0x0000000100000003,
-    },
-];
+/// The header of a Put of 1,024 bytes.
+const LONG: u64 = 0x0104000000008200;
 
-const PENDING: [Action; 6] = [
-    Action::Load { at: 195 },
-    Action::Load { at: 1280 },
-    Action::Load { at: 98304 },
-    Action::Load { at: 98305 },
-    Action::Load { at: 98306 },
-    Action::Load { at: 65 },
-];
+/// The header of a Delete.
+const DELETE: u64 = 0x0200000000000200;
 
-const DELETE: [Action; 7] = [
-    Action::Load { at: 195 },
-    Action::Load { at: 1280 },
-    Action::Load { at: 98304 },
-    Action::Load { at: 65 },
-    Action::Store {
-        at: 98307,
-        word: 0x0200000000000200,
+/// What a plan came to, but for the reply of a call.
+#[derive(Clone, Copy, Debug, PartialEq, Eq)]
+enum Outcome {
+    More,
+    Made {
+        key: u64,
+        number: u32,
+        to: Position,
+        at: Option<Ref>,
+        way: Way,
     },
-    Action::Store { at: 98308, word: 5 },
-    Action::Cas {
-        at: 65,
-        old: 0x0000000100000003,
-        new: 0x0000000200000005,
+    NotOwner {
+        look: u64,
+        cell: Option<u64>,
     },
-];
-
-/// A get of a session that was elsewhere at stamp 7.
-const RAISE: [Action; 5] = [
-    Action::Load { at: 195 },
-    Action::Load { at: 1280 },
-    Action::Load { at: 98307 },
-    Action::Load { at: 65 },
-    Action::Cas {
-        at: 65,
-        old: 0x0000000200000005,
-        new: 0x0000000800000005,
+    Fenced {
+        word: u64,
     },
-];
-
-fn write(rt: &impl Abort, pool: &mut Sound, at: u32, word: u64) {
-    assert!(rt; at < pool.size());
-    assert!(rt; pool.store(at, word).is_ok());
+    Full {
+        counter: u64,
+        segments: u32,
+    },
+    Worn {
+        stamp: u32,
+    },
+    Tended(TaskAnswer),
 }
 
-fn read(rt: &impl Abort, pool: &Sound, at: u32) -> u64 {
-    assert!(rt; at < pool.size());
-    pool.word(at)
-}
-
-/// Begins a call of session 1, whose last position has this stamp. It is the session's fourth.
-fn begin(lane: &mut Lane, stamp: u32, call: &Call) -> Result<(), Refuse>
-    requires { stamp < 2 ^ 31 }
-{
-    let last = Position {
+/// A call is made at this stamp and rank. Its record, where it has one, stands at this offset.
+fn made(key: u64, (stamp, rank): (u32, u32), at: Option<u32>, way: Way) -> Outcome {
+    let to = Position {
         stamp,
-        rank: 0,
+        rank,
         session: 1,
     };
-    let session = SessionView {
-        session: 1,
+    let at = match at {
+        Some(offset) => Some(Ref { lane: 1, offset }),
+        None => None,
+    };
+    Outcome::Made {
+        key,
         number: 4,
-        last,
-        hint: None,
-    };
-    lane.begin(&session, call)
-}
-
-/// Carries out an action.
-fn act(rt: &impl Abort, pool: &mut Sound, action: Action) -> u64 {
-    assert!(rt; action.at() < pool.size());
-    let Ok(word) = exec(pool, &action) else {
-        panic!(rt; "no access fails");
-    };
-    word
-}
-
-/// The lane takes a word.
-fn take(rt: &impl Abort, lane: &mut Lane, word: u64) -> Option<Answer> {
-    assert!(rt; lane.working());
-    match lane.take(word) {
-        Turn::More => None,
-        Turn::Done(answer) => Some(answer),
+        to,
+        at,
+        way,
     }
 }
 
-/// The lane's next action.
-fn next(rt: &impl Abort, lane: &Lane) -> Action {
-    let Some(action) = lane.next() else {
-        panic!(rt; "a call is under way");
-    };
-    action
-}
-
-/// Carries a call through by exactly these actions.
-fn follow(
-    rt: &impl Abort,
-    pool: &mut Sound,
-    lane: &mut Lane,
-    actions: &[Action],
-) -> Option<Answer> {
-    let mut answer = None;
-    for expected in actions {
-        let action = next(rt, lane);
-        assert_eq!(rt; action, *expected);
-        let word = act(rt, pool, action);
-        answer = take(rt, lane, word);
-    }
-    answer
-}
-
-/// Carries a call through, whatever its actions are.
-fn finish(rt: &impl Abort, pool: &mut Sound, lane: &mut Lane) -> Option<Answer> {
-    for _ in 0..200 {
-        let action = next(rt, lane);
-        let word = act(rt, pool, action);
-        if let Some(answer) = take(rt, lane, word) {
-            return Some(answer);
-        }
-    }
-    None
-}
-
-fn receipt_of(answer: Option<Answer>) -> Option<(Receipt, Way)> {
-    match answer? {
-        Answer::Made { receipt, way } => Some((receipt, way)),
-        Answer::NotOwner { .. }
-        | Answer::Fenced { .. }
-        | Answer::Full { .. }
-        | Answer::Worn { .. } => None,
+fn key_in(call: &Call) -> u64
+    ensures { result ≡ key_of call.now }
+{
+    match call {
+        Call::Get { key } | Call::Put { key, .. } | Call::Delete { key } => *key,
     }
 }
 
-/// The bytes of the reply, or its name.
+fn outcome_of(turn: &Turn) -> Outcome {
+    match turn {
+        Turn::More => Outcome::More,
+        Turn::Tended(answer) => Outcome::Tended(*answer),
+        Turn::Done(Answer::Made { receipt, way }) => Outcome::Made {
+            key: key_in(&receipt.call),
+            number: receipt.number,
+            to: receipt.position,
+            at: receipt.at,
+            way: *way,
+        },
+        Turn::Done(Answer::NotOwner { look, cell }) => Outcome::NotOwner {
+            look: *look,
+            cell: *cell,
+        },
+        Turn::Done(Answer::Fenced { word }) => Outcome::Fenced { word: *word },
+        Turn::Done(Answer::Full { counter, segments }) => Outcome::Full {
+            counter: *counter,
+            segments: *segments,
+        },
+        Turn::Done(Answer::Worn { stamp }) => Outcome::Worn { stamp: *stamp },
+    }
+}
+
+/// The bytes of a reply, or its name.
 fn told(reply: &Reply) -> &[u8] {
     match reply {
         Reply::Value(value) => value.as_bytes(),
@@ -182,155 +120,161 @@ fn told(reply: &Reply) -> &[u8] {
     }
 }
 
-/// Carries a call through by exactly these actions, and compares its stamp and rank, its way and its reply.
-fn expect(
-    rt: &impl Abort,
-    pool: &mut Sound,
-    lane: &mut Lane,
-    stamp: u32,
-    call: Call,
-    actions: &[Action],
-    made: (u32, u32, Way, &[u8]),
-)
-    requires { stamp < 2 ^ 31 }
-{
-    assert!(rt; begin(lane, stamp, &call).is_ok());
-    let Some((receipt, way)) = receipt_of(follow(rt, pool, lane, actions)) else {
-        panic!(rt; "no receipt");
-    };
-    assert_eq!(rt; receipt.number, 4);
-    let position = receipt.position;
-    assert_eq!(rt;
-        (position.stamp, position.rank, way, told(&receipt.reply)),
-        made
-    );
-}
-
-/// A get, a put of `a`, and a get, a delete and a get after it.
-fn expect_all(rt: &impl Abort, pool: &mut Sound, lane: &mut Lane, value: Value) {
-    let get = Call::Get { key: 5 };
-    expect(
-        rt,
-        pool,
-        lane,
-        0,
-        get,
-        &ABSENT,
-        (0, 1, Way::Index, b"(absent)"),
-    );
-    let put = Call::Put { key: 5, value };
-    expect(
-        rt,
-        pool,
-        lane,
-        0,
-        put,
-        &PUT,
-        (1, 0, Way::Index, b"(stored)"),
-    );
-    let get = Call::Get { key: 5 };
-    expect(rt, pool, lane, 1, get, &PENDING, (1, 1, Way::Pending, b"a"));
-    let delete = Call::Delete { key: 5 };
-    expect(
-        rt,
-        pool,
-        lane,
-        1,
-        delete,
-        &DELETE,
-        (2, 0, Way::Pending, b"(deleted)"),
-    );
-    let get = Call::Get { key: 5 };
-    expect(
-        rt,
-        pool,
-        lane,
-        7,
-        get,
-        &RAISE,
-        (8, 0, Way::Pending, b"(absent)"),
-    );
-}
-
-#[test]
-fn calls_action_by_action(rt: HostRuntime) -> Result<(), Fail> {
-    let mut pool = Sound::new(rt.alloc(), 1)?;
-    let mut lane = Lane::new(rt.alloc(), 1, 1)?;
-    let value = Value::from_bytes(rt.alloc(), b"a")?;
-    write(&rt, &mut pool, DEED_AT, OWNED);
-    expect_all(&rt, &mut pool, &mut lane, value);
-    assert_eq!(rt; (lane.number(), lane.len(), lane.staged()), (1, 5, 0));
-    assert_eq!(rt; lane.next(), None);
-    Ok(())
-}
-
-/// Puts a value of 1,024 bytes.
-fn put_long(rt: &impl Abort, pool: &mut Sound, lane: &mut Lane, value: Value) {
-    assert!(rt; begin(lane, 0, &Call::Put { key: 5, value }).is_ok());
-    assert!(rt; receipt_of(finish(rt, pool, lane)).is_some());
-}
-
-#[test]
-fn the_eighth_record_of_130_words_has_a_pad_before_it(rt: HostRuntime) -> Result<(), Fail> {
-    let mut pool = Sound::new(rt.alloc(), 2)?;
-    let mut lane = Lane::new(rt.alloc(), 1, 2)?;
-    write(&rt, &mut pool, DEED_AT, OWNED);
-    for _ in 0..8 {
-        let value = Value::from_bytes(rt.alloc(), &[65u8; 1024])?;
-        put_long(&rt, &mut pool, &mut lane, value);
-    }
-    assert_eq!(rt; lane.len(), 1154);
-    for (at, word) in [
-        (1, 2),
-        (GATE_AT, 0x0000000800000482),
-        (1280, 1),
-        (1281, 2),
-        (99214, 0x0700000000007200),
-    ] {
-        assert_eq!(rt; read(&rt, &pool, at), word, "{at}");
-    }
-    begin(&mut lane, 0, &Call::Get { key: 5 })?;
-    let Some((receipt, _)) = receipt_of(finish(&rt, &mut pool, &mut lane)) else {
-        panic!(rt; "no receipt");
-    };
-    assert_eq!(rt; told(&receipt.reply), [65u8; 1024].as_slice());
-    Ok(())
-}
-
-/// What an answer that isn't Made says: its name and its numbers.
-fn numbers_of(answer: Option<Answer>) -> (u8, u64, u32) {
-    match answer {
-        None | Some(Answer::Made { .. }) => (0, 0, 0),
-        Some(Answer::NotOwner { look, .. }) => (1, look, 0),
-        Some(Answer::Fenced { word }) => (2, word, 0),
-        Some(Answer::Full { counter, segments }) => (3, counter, segments),
-        Some(Answer::Worn { stamp }) => (4, 0, stamp),
+/// The reply of a call that is made.
+fn reply_of(turn: &Turn) -> &[u8] {
+    match turn {
+        Turn::Done(Answer::Made { receipt, .. }) => told(&receipt.reply),
+        _ => b"",
     }
 }
 
-#[test]
-fn calls_that_are_not_made(rt: HostRuntime) -> Result<(), Fail> {
-    let mut pool = Sound::new(rt.alloc(), 1)?;
-    let mut lane = Lane::new(rt.alloc(), 1, 1)?;
-    // no segment is left
-    write(&rt, &mut pool, 1, 1);
-    for (deed, gate, numbers) in [
-        (0x4000008100000000, 0, (1, 0x4000008100000000, 0)),
-        (OWNED, 0, (3, 1, 0)),
-        (OWNED, 0x7fffffff00000000, (4, 0, 2147483647)),
-        (OWNED, 0x8000000100000000, (2, 0x8000000100000000, 0)),
-    ] {
-        write(&rt, &mut pool, DEED_AT, deed);
-        write(&rt, &mut pool, GATE_AT, gate);
-        begin(&mut lane, 0, &Call::Delete { key: 5 })?;
-        let busy = begin(&mut lane, 0, &Call::Get { key: 6 });
-        assert_eq!(rt; busy, Err(Refuse::Busy { number: 4 }));
-        assert_eq!(rt; numbers_of(finish(&rt, &mut pool, &mut lane)), numbers);
+/// The lane, the pool, and what the lane answered last.
+#[derive(Drop)]
+struct Node {
+    pool: Sound,
+    lane: Lane,
+    turn: Turn,
+}
+
+impl Node {
+    /// The lane owns slot 3.
+    fn new(rt: &impl Abort, pool: Sound, lane: Lane) -> Node {
+        let mut node = Node {
+            pool,
+            lane,
+            turn: Turn::More,
+        };
+        node.write(rt, 195, OWNED);
+        node
     }
-    let word = 0x8000000100000000;
-    assert_eq!(rt;
-        begin(&mut lane, 0, &Call::Get { key: 5 }),
-        Err(Refuse::Fenced { word })
-    );
-    Ok(())
+
+    /// Somebody else stores a word.
+    fn write(&mut self, rt: &impl Abort, at: u32, word: u64) {
+        assert!(rt; at < self.pool.size());
+        assert!(rt; self.pool.store(at, word).is_ok());
+    }
+
+    fn word(&self, rt: &impl Abort, at: u32) -> u64 {
+        assert!(rt; at < self.pool.size());
+        self.pool.word(at)
+    }
+
+    /// Begins the fourth call of session 1, whose last position has this stamp and rank 0.
+    fn try_call(&mut self, rt: &impl Abort, stamp: u32, call: &Call) -> Result<(), Refuse> {
+        assert!(rt; stamp < 0x80000000);
+        assert!(rt; key_in(call) != 0);
+        let session = SessionView {
+            session: 1,
+            number: 4,
+            last: Position {
+                stamp,
+                rank: 0,
+                session: 1,
+            },
+            hint: None,
+        };
+        self.lane.begin(&session, call)
+    }
+
+    fn call(&mut self, rt: &impl Abort, stamp: u32, call: &Call) {
+        assert_eq!(rt; self.try_call(rt, stamp, call), Ok(()));
+    }
+
+    fn get(&mut self, rt: &impl Abort, key: u64, stamp: u32) {
+        self.call(rt, stamp, &Call::Get { key });
+    }
+
+    fn put(&mut self, rt: &impl Abort, key: u64, value: Value) {
+        self.call(rt, 0, &Call::Put { key, value });
+    }
+
+    fn delete(&mut self, rt: &impl Abort, key: u64) {
+        self.call(rt, 0, &Call::Delete { key });
+    }
+
+    fn try_task(&mut self, rt: &impl Abort, task: Task) -> Result<(), Refuse> {
+        match task {
+            Task::Release { slot } => assert!(rt; slot < 64),
+            Task::Trim => {}
+            Task::Share { key } | Task::Unshare { key } => assert!(rt; key != 0),
+        }
+        self.lane.begin_task(task)
+    }
+
+    fn task(&mut self, rt: &impl Abort, task: Task) {
+        assert_eq!(rt; self.try_task(rt, task), Ok(()));
+    }
+
+    /// Carries out the next action.
+    fn act(&mut self, rt: &impl Abort) -> Action {
+        let Some(action) = self.lane.next() else {
+            panic!(rt; "a plan is under way");
+        };
+        assert!(rt; action.at() < self.pool.size());
+        let Ok(found) = exec(&mut self.pool, &action) else {
+            panic!(rt; "no access fails");
+        };
+        self.turn = self.lane.take(found);
+        action
+    }
+
+    /// The next actions are loads of these words.
+    fn loads(&mut self, rt: &impl Abort, words: &[u32]) {
+        for at in words {
+            assert_eq!(rt; self.act(rt), Action::Load { at: *at });
+        }
+    }
+
+    /// The next actions are these stores.
+    fn stores(&mut self, rt: &impl Abort, words: &[(u32, u64)]) {
+        for (at, word) in words {
+            let store = Action::Store {
+                at: *at,
+                word: *word,
+            };
+            assert_eq!(rt; self.act(rt), store);
+        }
+    }
+
+    /// The next actions are the load of a counter and an add of 1.
+    fn claims(&mut self, rt: &impl Abort, at: u32) {
+        assert_eq!(rt; self.act(rt), Action::Load { at });
+        assert_eq!(rt; self.act(rt), Action::Add { at, by: 1 });
+    }
+
+    /// The next action is an exchange.
+    fn exchanges(&mut self, rt: &impl Abort, at: u32, old: u64, new: u64) {
+        assert_eq!(rt; self.act(rt), Action::Cas { at, old, new });
+    }
+
+    /// Carries the plan through, whatever its actions are.
+    fn finish(&mut self, rt: &impl Abort) {
+        for _ in 0..200 {
+            if !self.lane.working() {
+                return;
+            }
+            self.act(rt);
+        }
+        panic!(rt; "the plan ends");
+    }
+
+    /// The plan has ended so.
+    fn ends(&self, rt: &impl Abort, expected: Outcome, text: &[u8]) {
+        assert_eq!(rt; outcome_of(&self.turn), expected);
+        assert_eq!(rt; reply_of(&self.turn), text);
+        assert!(rt; !self.lane.working());
+        assert_eq!(rt; (self.lane.next(), self.lane.staged()), (None, 0));
+    }
+
+    fn tended(&self, rt: &impl Abort, answer: TaskAnswer) {
+        self.ends(rt, Outcome::Tended(answer), b"");
+    }
+
+    /// The records below the mark are merged, and the lane forgets them.
+    fn trims(&mut self, rt: &impl Abort, mark: u64) {
+        self.write(rt, 129, mark);
+        self.task(rt, Task::Trim);
+        self.loads(rt, &[129]);
+        self.tended(rt, TaskAnswer::Trimmed { mark });
+    }
 }

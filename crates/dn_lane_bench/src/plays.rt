@@ -9,7 +9,7 @@ use crate::tallies::Tally;
 use anyhow::bail;
 use dn_act::{Failed, Memory, Sound, exec};
 use dn_hist::{Call, SessionView};
-use dn_lane2::{Answer, Lane, Turn};
+use dn_lane::{Answer, Lane, Turn};
 use dn_word::regions::{FORMAT_AT, SLOTS, deed_at};
 use dn_word::{Deed, DeedState, FORMAT_NUMBER, Format, MAX_STAMP, Position};
 use std::alloc::Global;

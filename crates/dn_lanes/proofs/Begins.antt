@@ -12,11 +12,11 @@ use Rattle.dn_owners.specs.Known.{Look}
 use Rattle.dn_tend.specs.declared.tasks.Task.{Task}
 use Rattle.dn_tend.specs.declared.tasks.Task.TheVariants as task
 use Rattle.dn_ask.specs.declared.asks.Act.TheVariants as act
-use Rattle.dn_lane2.specs.State.{LaneState, fresh, reserved, begun, begun_task, first_of}
-use Rattle.dn_lane2.specs.Taken.{Taken}
-use Rattle.dn_lane2.specs.Turns.{turned, left}
-use Rattle.dn_lane2.specs.declared.asked.Asked.TheVariants as asked
-use Rattle.dn_lane2.specs.declared.modes.Mode.TheVariants as mode
+use Rattle.dn_lane.specs.State.{LaneState, fresh, reserved, begun, begun_task, first_of}
+use Rattle.dn_lane.specs.Taken.{Taken}
+use Rattle.dn_lane.specs.Turns.{turned, left}
+use Rattle.dn_lane.specs.declared.asked.Asked.TheVariants as asked
+use Rattle.dn_lane.specs.declared.modes.Mode.TheVariants as mode
 use Rattle.dn_beside.specs.Pool.{Pool, store_in, IsWhole}
 use Rattle.dn_beside.specs.Step.{by_lane}
 use Rattle.dn_beside.proofs.Chained.{step_then}

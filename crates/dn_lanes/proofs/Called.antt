@@ -5,9 +5,9 @@ use Rattle.dn_hist.specs.Calls.{key_of}
 use Rattle.dn_hist.specs.declared.calls.Call.{Call}
 use Rattle.dn_hist.specs.declared.calls.Call.TheVariants.{Get, Put, Delete}
 use Rattle.dn_model.specs.OneLog.{is_plain}
-use Rattle.dn_lane2.specs.Asked.{call_in}
-use Rattle.dn_lane2.specs.declared.asked.Asked.{Asked}
-use Rattle.dn_lane2.specs.declared.asked.Asked.TheVariants as asked
+use Rattle.dn_lane.specs.Asked.{call_in}
+use Rattle.dn_lane.specs.declared.asked.Asked.{Asked}
+use Rattle.dn_lane.specs.declared.asked.Asked.TheVariants as asked
 use Rattle.dn_receipts.specs.Sealing.{record_of}
 use Rattle.dn_lanes.specs.Calls.{IsCall, IsCalled, key_in}
 

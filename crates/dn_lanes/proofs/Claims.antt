@@ -18,12 +18,12 @@ use Rattle.dn_plan.specs.declared.results.Ending.TheVariants as ending
 use Rattle.dn_ask.specs.declared.asks.End.TheVariants as end
 use Rattle.dn_ask.specs.declared.asks.FindRoom.TheVariants as room
 use Rattle.dn_services.specs.Room.{turn_by, claimed_by}
-use Rattle.dn_lane2.specs.Asked.{call_in}
-use Rattle.dn_lane2.specs.State.{LaneState}
-use Rattle.dn_lane2.specs.Taken.{by, roomed_by, taken_by}
-use Rattle.dn_lane2.specs.declared.asked.Asked.{Asked}
-use Rattle.dn_lane2.specs.declared.base.Base.{Base}
-use Rattle.dn_lane2.specs.declared.modes.Mode.TheVariants as mode
+use Rattle.dn_lane.specs.Asked.{call_in}
+use Rattle.dn_lane.specs.State.{LaneState}
+use Rattle.dn_lane.specs.Taken.{by, roomed_by, taken_by}
+use Rattle.dn_lane.specs.declared.asked.Asked.{Asked}
+use Rattle.dn_lane.specs.declared.base.Base.{Base}
+use Rattle.dn_lane.specs.declared.modes.Mode.TheVariants as mode
 use Rattle.dn_beside.specs.Pool.{Pool, store_in, IsWhole}
 use Rattle.dn_reach.specs.OwnLog.{IsLaneOf}
 use Rattle.dn_reach.specs.Steps.{after_claim, after_miss}

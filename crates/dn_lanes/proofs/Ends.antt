@@ -17,14 +17,14 @@ use Rattle.dn_owners.proofs.Ats.{same_some, none_some}
 use Rattle.dn_owners.proofs.Logs.{ordered}
 use Rattle.dn_owners.proofs.Tables.{kept}
 use Rattle.dn_ask.specs.declared.asks.End.{End as EndOf}
-use Rattle.dn_lane2.specs.Ends.{turn_by}
-use Rattle.dn_lane2.specs.State.{LaneState}
-use Rattle.dn_lane2.specs.declared.asked.Asked.{Asked}
-use Rattle.dn_lane2.specs.declared.asked.Asked.TheVariants as asked
-use Rattle.dn_lane2.specs.declared.base.Base.{Base}
-use Rattle.dn_lane2.specs.declared.modes.Going.TheVariants.{On, End}
-use Rattle.dn_lane2.specs.declared.modes.Mode.{Mode}
-use Rattle.dn_lane2.specs.declared.modes.Mode.TheVariants as mode
+use Rattle.dn_lane.specs.Ends.{turn_by}
+use Rattle.dn_lane.specs.State.{LaneState}
+use Rattle.dn_lane.specs.declared.asked.Asked.{Asked}
+use Rattle.dn_lane.specs.declared.asked.Asked.TheVariants as asked
+use Rattle.dn_lane.specs.declared.base.Base.{Base}
+use Rattle.dn_lane.specs.declared.modes.Going.TheVariants.{On, End}
+use Rattle.dn_lane.specs.declared.modes.Mode.{Mode}
+use Rattle.dn_lane.specs.declared.modes.Mode.TheVariants as mode
 use Rattle.dn_beside.specs.Pool.{Pool, store_in, IsWhole}
 use Rattle.dn_beside.specs.Lanes.{LeavesOwn}
 use Rattle.dn_beside.specs.Step.{IsStepBy, IsQuiet, by_lane}

@@ -19,13 +19,13 @@ use Rattle.dn_plan.specs.declared.phases.Located.{Located}
 use Rattle.dn_plan.specs.declared.phases.Raised.{Raised}
 use Rattle.dn_plan.specs.declared.results.Ending.TheVariants as ending
 use Rattle.dn_ask.specs.declared.asks.End.TheVariants as end
-use Rattle.dn_lane2.specs.Asked.{brief_of, call_in, view_in}
-use Rattle.dn_lane2.specs.Ends.{receipt_of, turn_by}
-use Rattle.dn_lane2.specs.State.{LaneState}
-use Rattle.dn_lane2.specs.declared.asked.Asked.{Asked}
-use Rattle.dn_lane2.specs.declared.asked.Asked.TheVariants as asked
-use Rattle.dn_lane2.specs.declared.base.Base.{Base}
-use Rattle.dn_lane2.specs.declared.modes.Going.TheVariants.{End}
+use Rattle.dn_lane.specs.Asked.{brief_of, call_in, view_in}
+use Rattle.dn_lane.specs.Ends.{receipt_of, turn_by}
+use Rattle.dn_lane.specs.State.{LaneState}
+use Rattle.dn_lane.specs.declared.asked.Asked.{Asked}
+use Rattle.dn_lane.specs.declared.asked.Asked.TheVariants as asked
+use Rattle.dn_lane.specs.declared.base.Base.{Base}
+use Rattle.dn_lane.specs.declared.modes.Going.TheVariants.{End}
 use Rattle.dn_beside.specs.Pool.{Pool, store_in, IsWhole}
 use Rattle.dn_beside.specs.Step.{IsStepBy, IsQuiet, by_lane}
 use Rattle.dn_beside.proofs.Still.{learning_step}

@@ -30,14 +30,14 @@ use Rattle.dn_find.specs.declared.finds.Find.TheVariants.{Walk, Fetch}
 use Rattle.dn_find.specs.declared.finds.Found.{Found}
 use Rattle.dn_find.specs.declared.finds.Found.TheVariants.{More, Here}
 use Rattle.dn_owners.specs.Known.{Look}
-use Rattle.dn_lane2.specs.Asked.{kind_of, call_in}
-use Rattle.dn_lane2.specs.Found.{kept_by, kept_in, value_in, value_behind}
-use Rattle.dn_lane2.specs.State.{LaneState}
-use Rattle.dn_lane2.specs.Taken.{by, goes, sought_by, taken_by}
-use Rattle.dn_lane2.specs.declared.asked.Asked.{Asked}
-use Rattle.dn_lane2.specs.declared.asked.Asked.TheVariants as asked
-use Rattle.dn_lane2.specs.declared.base.Base.{Base}
-use Rattle.dn_lane2.specs.declared.modes.Mode.TheVariants as mode
+use Rattle.dn_lane.specs.Asked.{kind_of, call_in}
+use Rattle.dn_lane.specs.Found.{kept_by, kept_in, value_in, value_behind}
+use Rattle.dn_lane.specs.State.{LaneState}
+use Rattle.dn_lane.specs.Taken.{by, goes, sought_by, taken_by}
+use Rattle.dn_lane.specs.declared.asked.Asked.{Asked}
+use Rattle.dn_lane.specs.declared.asked.Asked.TheVariants as asked
+use Rattle.dn_lane.specs.declared.base.Base.{Base}
+use Rattle.dn_lane.specs.declared.modes.Mode.TheVariants as mode
 use Rattle.dn_beside.specs.Pool.{Pool, store_in, IsWhole}
 use Rattle.dn_seek.specs.Values.{ReadsValues}
 use Rattle.dn_seek.specs.Located.{IsLocatedAs}

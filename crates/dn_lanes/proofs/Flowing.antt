@@ -19,11 +19,11 @@ use Rattle.dn_plan.specs.declared.phases.SealPhase.TheVariants as sealing
 use Rattle.dn_ask.specs.declared.asks.FindRoom.TheVariants as room
 use Rattle.dn_ask.specs.declared.asks.Seal.TheVariants as seal
 use Rattle.dn_services.specs.declared.seals.Seal.{Seal}
-use Rattle.dn_lane2.specs.Asked.{call_in}
-use Rattle.dn_lane2.specs.declared.asked.Asked.{Asked}
-use Rattle.dn_lane2.specs.declared.base.Base.{Base}
-use Rattle.dn_lane2.specs.declared.modes.Mode.{Mode}
-use Rattle.dn_lane2.specs.declared.modes.Mode.TheVariants as mode
+use Rattle.dn_lane.specs.Asked.{call_in}
+use Rattle.dn_lane.specs.declared.asked.Asked.{Asked}
+use Rattle.dn_lane.specs.declared.base.Base.{Base}
+use Rattle.dn_lane.specs.declared.modes.Mode.{Mode}
+use Rattle.dn_lane.specs.declared.modes.Mode.TheVariants as mode
 use Rattle.dn_beside.specs.Pool.{Pool, store_in, IsWhole}
 use Rattle.dn_beside.specs.Step.{IsQuiet}
 use Rattle.dn_reach.specs.OwnLog.{IsLaneOf}

@@ -7,7 +7,7 @@ use Rattle.dn_store.specs.State.{StoreState}
 use Rattle.dn_plan.specs.Plan.{is_owner}
 use Rattle.dn_known.specs.State.{KnownState}
 use Rattle.dn_known.specs.Learnt.{met}
-use Rattle.dn_lane2.specs.declared.base.Base.{Base}
+use Rattle.dn_lane.specs.declared.base.Base.{Base}
 use Rattle.dn_beside.specs.Pool.{Pool, store_in, IsWhole}
 use Rattle.dn_beside.specs.Step.{by_lane}
 use Rattle.dn_beside.proofs.Still.{learning_step, quiet_still}

@@ -16,13 +16,13 @@ use Rattle.dn_ask.specs.declared.asks.Act.TheVariants as act
 use Rattle.dn_ask.specs.declared.asks.FindRoom.TheVariants as room
 use Rattle.dn_ask.specs.declared.asks.Locate.TheVariants as locate
 use Rattle.dn_ask.specs.declared.asks.Seal.TheVariants as seal
-use Rattle.dn_lane2.specs.Asked.{brief_of, call_in}
-use Rattle.dn_lane2.specs.State.{LaneState}
-use Rattle.dn_lane2.specs.declared.asked.Asked.{Asked}
-use Rattle.dn_lane2.specs.declared.asked.Asked.TheVariants as asked
-use Rattle.dn_lane2.specs.declared.base.Base.{Base}
-use Rattle.dn_lane2.specs.declared.modes.Mode.{Mode}
-use Rattle.dn_lane2.specs.declared.modes.Mode.TheVariants as mode
+use Rattle.dn_lane.specs.Asked.{brief_of, call_in}
+use Rattle.dn_lane.specs.State.{LaneState}
+use Rattle.dn_lane.specs.declared.asked.Asked.{Asked}
+use Rattle.dn_lane.specs.declared.asked.Asked.TheVariants as asked
+use Rattle.dn_lane.specs.declared.base.Base.{Base}
+use Rattle.dn_lane.specs.declared.modes.Mode.{Mode}
+use Rattle.dn_lane.specs.declared.modes.Mode.TheVariants as mode
 use Rattle.dn_owners.specs.Known.{Look}
 use Rattle.dn_beside.specs.Pool.{Pool, store_in, IsWhole}
 use Rattle.dn_beside.specs.Grown.{Grows}
@@ -51,10 +51,6 @@ pub record AreOthers (n : ℕ) (p q : Pool) : Type 0 where
 
 abbrev pub seen_by : ℕ → Pool → Option Look
 seen_by n p = (p.owners.knows n).look
-
--- ---- what a get will reply
-pub reply_lasts : (n key : ℕ) (p q : Pool) (reply : Reply) → LeavesKey n key p q → IsReply p key reply → IsReply q key reply
-reply_lasts n key p q reply k h = record { of = h.of; agrees = k.located h.of h.agrees; of_key = h.of_key; plain = h.plain; says = h.says }
 
 call_lasts : (n : ℕ) (p q : Pool) (call : Call) (value : List ℕ) (held : Bool) → LeavesKey n (key_of call) p q → IsReplyTo p call value held → IsReplyTo q call value held
 call_lasts n p q (Get key) value held k h = record { of = h.of; agrees = k.located h.of h.agrees; of_key = h.of_key; plain = h.plain; says = h.says }

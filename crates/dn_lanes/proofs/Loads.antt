@@ -4,10 +4,10 @@ use Rattle.dn_act.specs.Action.{Performs}
 use Rattle.dn_act.specs.declared.actions.Action.TheVariants.{Load}
 use Rattle.dn_plan.specs.declared.results.Ending.TheVariants.{NotOwner, Fenced, Worn}
 use Rattle.dn_ask.specs.declared.asks.End.TheVariants as end
-use Rattle.dn_lane2.specs.Ends.{turn_by}
-use Rattle.dn_lane2.specs.declared.asked.Asked.{Asked}
-use Rattle.dn_lane2.specs.declared.asked.Asked.TheVariants as asked
-use Rattle.dn_lane2.specs.State.{LaneState}
+use Rattle.dn_lane.specs.Ends.{turn_by}
+use Rattle.dn_lane.specs.declared.asked.Asked.{Asked}
+use Rattle.dn_lane.specs.declared.asked.Asked.TheVariants as asked
+use Rattle.dn_lane.specs.State.{LaneState}
 use Rattle.dn_beside.specs.Pool.{Pool, IsWhole}
 use Rattle.dn_beside.specs.Step.{IsStepBy, IsQuiet, by_lane}
 use Rattle.dn_beside.proofs.Still.{learning_step, quiet_still}

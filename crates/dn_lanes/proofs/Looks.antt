@@ -23,12 +23,12 @@ use Rattle.dn_known.specs.State.{KnownState}
 use Rattle.dn_known.specs.Learnt.{met}
 use Rattle.dn_known.specs.Counting.{pending_of}
 use Rattle.dn_store.specs.State.{StoreState}
-use Rattle.dn_lane2.specs.Asked.{kind_of, call_in}
-use Rattle.dn_lane2.specs.State.{LaneState}
-use Rattle.dn_lane2.specs.Taken.{by, entered_next, taken_by}
-use Rattle.dn_lane2.specs.declared.asked.Asked.{Asked}
-use Rattle.dn_lane2.specs.declared.base.Base.{Base}
-use Rattle.dn_lane2.specs.declared.modes.Mode.TheVariants as mode
+use Rattle.dn_lane.specs.Asked.{kind_of, call_in}
+use Rattle.dn_lane.specs.State.{LaneState}
+use Rattle.dn_lane.specs.Taken.{by, entered_next, taken_by}
+use Rattle.dn_lane.specs.declared.asked.Asked.{Asked}
+use Rattle.dn_lane.specs.declared.base.Base.{Base}
+use Rattle.dn_lane.specs.declared.modes.Mode.TheVariants as mode
 use Rattle.dn_beside.specs.Pool.{Pool, store_in, IsWhole}
 use Rattle.dn_learnt.specs.Heeding.{look_by, IsLooked}
 use Rattle.dn_learnt.specs.Pendings.{MayAsk, IsPendingAt, HasNone}

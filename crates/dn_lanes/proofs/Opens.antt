@@ -26,15 +26,15 @@ use Rattle.dn_ask.specs.declared.asks.End.TheVariants as end
 use Rattle.dn_store.specs.Holding.{holds}
 use Rattle.dn_owners.specs.Known.{Look}
 use Rattle.dn_owners.specs.Sound.{IsHeld}
-use Rattle.dn_lane2.specs.Asked.{brief_of}
-use Rattle.dn_lane2.specs.Ends.{receipt_of}
-use Rattle.dn_lane2.specs.State.{LaneState}
-use Rattle.dn_lane2.specs.Taken.{by, entered, entered_after, taken_by}
-use Rattle.dn_lane2.specs.declared.asked.Asked.{Asked}
-use Rattle.dn_lane2.specs.declared.asked.Asked.TheVariants as asked
-use Rattle.dn_lane2.specs.declared.base.Base.{Base}
-use Rattle.dn_lane2.specs.declared.modes.Going.TheVariants.{End}
-use Rattle.dn_lane2.specs.declared.modes.Mode.TheVariants as mode
+use Rattle.dn_lane.specs.Asked.{brief_of}
+use Rattle.dn_lane.specs.Ends.{receipt_of}
+use Rattle.dn_lane.specs.State.{LaneState}
+use Rattle.dn_lane.specs.Taken.{by, entered, entered_after, taken_by}
+use Rattle.dn_lane.specs.declared.asked.Asked.{Asked}
+use Rattle.dn_lane.specs.declared.asked.Asked.TheVariants as asked
+use Rattle.dn_lane.specs.declared.base.Base.{Base}
+use Rattle.dn_lane.specs.declared.modes.Going.TheVariants.{End}
+use Rattle.dn_lane.specs.declared.modes.Mode.TheVariants as mode
 use Rattle.dn_beside.specs.Pool.{Pool, store_in, IsWhole}
 use Rattle.dn_learnt.specs.Heeding.{look_by}
 use Rattle.dn_seek.proofs.Seeks.{agreed_held}

@@ -21,14 +21,14 @@ use Rattle.dn_plan.specs.declared.results.Ending.TheVariants as ending
 use Rattle.dn_ask.specs.Ask.{action_in, call_step}
 use Rattle.dn_ask.specs.declared.asks.Act.TheVariants as act
 use Rattle.dn_ask.specs.declared.asks.End.TheVariants as end
-use Rattle.dn_lane2.specs.Asked.{brief_of, kind_of, call_in}
-use Rattle.dn_lane2.specs.Ends.{receipt_of, reply_in}
-use Rattle.dn_lane2.specs.State.{LaneState}
-use Rattle.dn_lane2.specs.Taken.{by, entered, taken_by}
-use Rattle.dn_lane2.specs.declared.asked.Asked.{Asked}
-use Rattle.dn_lane2.specs.declared.asked.Asked.TheVariants as asked
-use Rattle.dn_lane2.specs.declared.base.Base.{Base}
-use Rattle.dn_lane2.specs.declared.modes.Mode.TheVariants as mode
+use Rattle.dn_lane.specs.Asked.{brief_of, kind_of, call_in}
+use Rattle.dn_lane.specs.Ends.{receipt_of, reply_in}
+use Rattle.dn_lane.specs.State.{LaneState}
+use Rattle.dn_lane.specs.Taken.{by, entered, taken_by}
+use Rattle.dn_lane.specs.declared.asked.Asked.{Asked}
+use Rattle.dn_lane.specs.declared.asked.Asked.TheVariants as asked
+use Rattle.dn_lane.specs.declared.base.Base.{Base}
+use Rattle.dn_lane.specs.declared.modes.Mode.TheVariants as mode
 use Rattle.dn_beside.specs.Pool.{Pool, store_in, IsWhole}
 use Rattle.dn_beside.specs.Step.{IsQuiet}
 use Rattle.dn_learnt.specs.Heeding.{look_by}

@@ -21,14 +21,14 @@ use Rattle.dn_ask.specs.declared.asks.Seal.TheVariants as seal
 use Rattle.dn_services.specs.Spelled.{call_words, call_spelling}
 use Rattle.dn_services.specs.Staged.{staged_of}
 use Rattle.dn_services.specs.declared.rooms.RoomTurn.TheVariants as turn
-use Rattle.dn_lane2.specs.Asked.{brief_of, kind_of, call_in, words_in}
-use Rattle.dn_lane2.specs.Ends.{turn_by}
-use Rattle.dn_lane2.specs.State.{LaneState}
-use Rattle.dn_lane2.specs.Taken.{by, waits_by, sealing_by, entered_seal, entered_room, roomed_by}
-use Rattle.dn_lane2.specs.declared.asked.Asked.{Asked}
-use Rattle.dn_lane2.specs.declared.asked.Asked.TheVariants as asked
-use Rattle.dn_lane2.specs.declared.base.Base.{Base}
-use Rattle.dn_lane2.specs.declared.modes.Mode.TheVariants as mode
+use Rattle.dn_lane.specs.Asked.{brief_of, kind_of, call_in, words_in}
+use Rattle.dn_lane.specs.Ends.{turn_by}
+use Rattle.dn_lane.specs.State.{LaneState}
+use Rattle.dn_lane.specs.Taken.{by, waits_by, sealing_by, entered_seal, entered_room, roomed_by}
+use Rattle.dn_lane.specs.declared.asked.Asked.{Asked}
+use Rattle.dn_lane.specs.declared.asked.Asked.TheVariants as asked
+use Rattle.dn_lane.specs.declared.base.Base.{Base}
+use Rattle.dn_lane.specs.declared.modes.Mode.TheVariants as mode
 use Rattle.dn_beside.specs.Pool.{Pool, store_in}
 use Rattle.dn_beside.specs.Step.{IsQuiet}
 use Rattle.dn_reach.specs.Placing.{plan_for, staged_for}

@@ -36,14 +36,14 @@ use Rattle.dn_services.specs.Sealing.{next_of as seal_next}
 use Rattle.dn_services.specs.Spelled.{call_words}
 use Rattle.dn_services.specs.declared.seals.Seal.{Seal}
 use Rattle.dn_services.specs.declared.seals.SealTurn.TheVariants as turn
-use Rattle.dn_lane2.specs.Asked.{brief_of, kind_of, call_in}
-use Rattle.dn_lane2.specs.Ends.{receipt_of}
-use Rattle.dn_lane2.specs.State.{LaneState}
-use Rattle.dn_lane2.specs.Taken.{by, entered, sealed_by, taken_by}
-use Rattle.dn_lane2.specs.declared.asked.Asked.{Asked}
-use Rattle.dn_lane2.specs.declared.asked.Asked.TheVariants as asked
-use Rattle.dn_lane2.specs.declared.base.Base.{Base}
-use Rattle.dn_lane2.specs.declared.modes.Mode.TheVariants as mode
+use Rattle.dn_lane.specs.Asked.{brief_of, kind_of, call_in}
+use Rattle.dn_lane.specs.Ends.{receipt_of}
+use Rattle.dn_lane.specs.State.{LaneState}
+use Rattle.dn_lane.specs.Taken.{by, entered, sealed_by, taken_by}
+use Rattle.dn_lane.specs.declared.asked.Asked.{Asked}
+use Rattle.dn_lane.specs.declared.asked.Asked.TheVariants as asked
+use Rattle.dn_lane.specs.declared.base.Base.{Base}
+use Rattle.dn_lane.specs.declared.modes.Mode.TheVariants as mode
 use Rattle.dn_beside.specs.Pool.{Pool, store_in, IsWhole}
 use Rattle.dn_learnt.specs.Learning.{Heeds, Learns}
 use Rattle.dn_learnt.specs.Heeding.{look_by}

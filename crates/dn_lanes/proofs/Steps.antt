@@ -12,13 +12,13 @@ use Rattle.dn_ask.specs.declared.asks.FindRoom.TheVariants as room
 use Rattle.dn_ask.specs.declared.asks.Locate.TheVariants as locate
 use Rattle.dn_ask.specs.declared.asks.Seal.TheVariants as seal
 use Rattle.dn_log.specs.Staged.{flow_of}
-use Rattle.dn_lane2.specs.Next.{next_in, next_of}
-use Rattle.dn_lane2.specs.State.{LaneState}
-use Rattle.dn_lane2.specs.Taken.{taken_by}
-use Rattle.dn_lane2.specs.declared.asked.Asked.{Asked}
-use Rattle.dn_lane2.specs.declared.base.Base.{Base}
-use Rattle.dn_lane2.specs.declared.modes.Mode.{Mode}
-use Rattle.dn_lane2.specs.declared.modes.Mode.TheVariants as mode
+use Rattle.dn_lane.specs.Next.{next_in, next_of}
+use Rattle.dn_lane.specs.State.{LaneState}
+use Rattle.dn_lane.specs.Taken.{taken_by}
+use Rattle.dn_lane.specs.declared.asked.Asked.{Asked}
+use Rattle.dn_lane.specs.declared.base.Base.{Base}
+use Rattle.dn_lane.specs.declared.modes.Mode.{Mode}
+use Rattle.dn_lane.specs.declared.modes.Mode.TheVariants as mode
 use Rattle.dn_beside.specs.Pool.{Pool, store_in, IsWhole}
 use Rattle.dn_lanes.specs.Lane.{IsLaneAt}
 use Rattle.std.specs.List.{remove}

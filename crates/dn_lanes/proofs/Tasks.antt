@@ -23,11 +23,11 @@ use Rattle.dn_tend.specs.declared.tasks.TaskAnswer.TheVariants.{Released as Was_
 use Rattle.dn_ask.specs.Ask.{task_next}
 use Rattle.dn_ask.specs.declared.asks.Act.TheVariants as act
 use Rattle.dn_ask.specs.declared.asks.End.TheVariants as end
-use Rattle.dn_lane2.specs.State.{LaneState}
-use Rattle.dn_lane2.specs.Taken.{by, entered_next}
-use Rattle.dn_lane2.specs.declared.asked.Asked.{Asked}
-use Rattle.dn_lane2.specs.declared.base.Base.{Base}
-use Rattle.dn_lane2.specs.declared.modes.Mode.TheVariants as mode
+use Rattle.dn_lane.specs.State.{LaneState}
+use Rattle.dn_lane.specs.Taken.{by, entered_next}
+use Rattle.dn_lane.specs.declared.asked.Asked.{Asked}
+use Rattle.dn_lane.specs.declared.base.Base.{Base}
+use Rattle.dn_lane.specs.declared.modes.Mode.TheVariants as mode
 use Rattle.dn_beside.specs.Pool.{Pool, store_in, IsWhole, IsDeed}
 use Rattle.dn_beside.specs.Lanes.{IsMoved, LeavesOwn}
 use Rattle.dn_beside.specs.Orders.{LeavesOrder}

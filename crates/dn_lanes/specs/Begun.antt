@@ -2,9 +2,9 @@ use Rattle.std.specs.Prelude.{◌≡◌, ◌<◌, ◌≤◌, ◌+◌, ℕ, false
 use Rattle.dn_hist.specs.declared.receipts.Receipt.{Receipt}
 use Rattle.dn_tend.specs.declared.tasks.Task.{Task}
 use Rattle.dn_tend.specs.declared.tasks.Task.TheVariants as task
-use Rattle.dn_lane2.specs.State.{LaneState}
-use Rattle.dn_lane2.specs.Taken.{Taken}
-use Rattle.dn_lane2.specs.Turns.{turned}
+use Rattle.dn_lane.specs.State.{LaneState}
+use Rattle.dn_lane.specs.Taken.{Taken}
+use Rattle.dn_lane.specs.Turns.{turned}
 use Rattle.dn_owners.specs.Known.{knowing_nothing}
 use Rattle.dn_beside.specs.Pool.{Pool, store_in}
 use Rattle.dn_beside.specs.Step.{IsStepBy, by_lane}

@@ -8,9 +8,9 @@ use Rattle.dn_hist.specs.declared.calls.Call.TheVariants.{Get, Put, Delete}
 use Rattle.dn_model.specs.Regions.{slot_of}
 use Rattle.dn_plan.specs.Plan.{need_of}
 use Rattle.dn_plan.specs.declared.phases.Raised.{Raised}
-use Rattle.dn_lane2.specs.Asked.{brief_of, call_in}
-use Rattle.dn_lane2.specs.declared.asked.Asked.{Asked}
-use Rattle.dn_lane2.specs.declared.asked.Asked.TheVariants as asked
+use Rattle.dn_lane.specs.Asked.{brief_of, call_in}
+use Rattle.dn_lane.specs.declared.asked.Asked.{Asked}
+use Rattle.dn_lane.specs.declared.asked.Asked.TheVariants as asked
 use Rattle.dn_owners.specs.Known.{Look}
 use Rattle.dn_learnt.specs.Heeding.{look_by}
 

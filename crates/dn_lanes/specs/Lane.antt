@@ -1,5 +1,5 @@
 use Rattle.std.specs.Prelude.{◌≡◌, ℕ, false}
-use Rattle.dn_lane2.specs.State.{LaneState}
+use Rattle.dn_lane.specs.State.{LaneState}
 use Rattle.dn_beside.specs.Pool.{Pool, store_in}
 use Rattle.dn_learnt.specs.Learning.{Learns}
 use Rattle.dn_reach.specs.OwnLog.{HoldsLog}

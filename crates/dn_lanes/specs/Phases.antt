@@ -33,14 +33,14 @@ use Rattle.dn_ask.specs.declared.asks.Locate.TheVariants as locate
 use Rattle.dn_ask.specs.declared.asks.Seal.TheVariants as seal
 use Rattle.dn_services.specs.Room.{IsClaimFor}
 use Rattle.dn_services.specs.declared.seals.Seal.{Seal}
-use Rattle.dn_lane2.specs.Asked.{brief_of, call_in}
-use Rattle.dn_lane2.specs.Ends.{reply_in}
-use Rattle.dn_lane2.specs.Taken.{sealing_by}
-use Rattle.dn_lane2.specs.declared.asked.Asked.{Asked}
-use Rattle.dn_lane2.specs.declared.asked.Asked.TheVariants as asked
-use Rattle.dn_lane2.specs.declared.base.Base.{Base}
-use Rattle.dn_lane2.specs.declared.modes.Mode.{Mode}
-use Rattle.dn_lane2.specs.declared.modes.Mode.TheVariants as mode
+use Rattle.dn_lane.specs.Asked.{brief_of, call_in}
+use Rattle.dn_lane.specs.Ends.{reply_in}
+use Rattle.dn_lane.specs.Taken.{sealing_by}
+use Rattle.dn_lane.specs.declared.asked.Asked.{Asked}
+use Rattle.dn_lane.specs.declared.asked.Asked.TheVariants as asked
+use Rattle.dn_lane.specs.declared.base.Base.{Base}
+use Rattle.dn_lane.specs.declared.modes.Mode.{Mode}
+use Rattle.dn_lane.specs.declared.modes.Mode.TheVariants as mode
 use Rattle.dn_beside.specs.Pool.{Pool, store_in}
 use Rattle.dn_reach.specs.Placing.{plan_for, staged_for}
 use Rattle.dn_reach.specs.Staging.{MayStageAll, AreFlowing}

@@ -3,16 +3,16 @@ use Rattle.dn_hist.specs.CallersOrder.{IsBefore}
 use Rattle.dn_hist.specs.declared.receipts.Receipt.{Receipt}
 use Rattle.dn_log.specs.declared.claims.Claim.{Claim}
 use Rattle.dn_log.specs.declared.claims.Claim.TheVariants.{Reading, Taking}
-use Rattle.dn_lane2.specs.Asked.{call_in, view_in}
-use Rattle.dn_lane2.specs.State.{LaneState}
-use Rattle.dn_lane2.specs.Taken.{Taken, taken_by}
-use Rattle.dn_lane2.specs.Turns.{turned, left, flowed_of}
-use Rattle.dn_lane2.specs.declared.answers.Answer.{Answer}
-use Rattle.dn_lane2.specs.declared.answers.Answer.TheVariants as answer
-use Rattle.dn_lane2.specs.declared.answers.Turn.{Turn}
-use Rattle.dn_lane2.specs.declared.answers.Turn.TheVariants.{More, Done, Tended}
-use Rattle.dn_lane2.specs.declared.modes.Mode.{Mode}
-use Rattle.dn_lane2.specs.declared.modes.Mode.TheVariants as mode
+use Rattle.dn_lane.specs.Asked.{call_in, view_in}
+use Rattle.dn_lane.specs.State.{LaneState}
+use Rattle.dn_lane.specs.Taken.{Taken, taken_by}
+use Rattle.dn_lane.specs.Turns.{turned, left, flowed_of}
+use Rattle.dn_lane.specs.declared.answers.Answer.{Answer}
+use Rattle.dn_lane.specs.declared.answers.Answer.TheVariants as answer
+use Rattle.dn_lane.specs.declared.answers.Turn.{Turn}
+use Rattle.dn_lane.specs.declared.answers.Turn.TheVariants.{More, Done, Tended}
+use Rattle.dn_lane.specs.declared.modes.Mode.{Mode}
+use Rattle.dn_lane.specs.declared.modes.Mode.TheVariants as mode
 use Rattle.dn_beside.specs.Pool.{Pool, store_in}
 use Rattle.dn_beside.specs.Step.{IsStepBy, IsQuiet, by_lane}
 use Rattle.dn_receipts.specs.Joined.{Joins}

@@ -52,14 +52,6 @@ is_loading (Link from) = true
 abbrev pub is_under_way : Fetching → Bool
 is_under_way f = is_loading f.place
 
--- whether a directory word is loaded next
-abbrev pub is_directory : FetchPlace → Bool
-is_directory Idle = false
-is_directory Directory = true
-is_directory (Header from) = false
-is_directory (Content from count) = false
-is_directory (Link from) = false
-
 -- the lane's directory word of the offset's segment
 abbrev pub directory_of : Ref → ℕ
 directory_of at = 1024 + 256 * at.lane + at.offset / 1024

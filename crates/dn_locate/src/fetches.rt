@@ -2,7 +2,7 @@ ghost use Rattle.std.specs.Prelude.{◌≡◌, ◌+◌, ◌*◌, ◌<◌, ◌≤
 ghost use Rattle.dn_act.specs.Action.{at_of};
 ghost use Rattle.dn_word.specs.Regions.{segments_at};
 ghost use Rattle.dn_act.specs.Words.{pool_size};
-ghost use Rattle.dn_locate.specs.Fetch.{idle, of_pool, started, fetch_next, fetch_turn, fetch_after, fetch_left, is_under_way, is_directory, IsAstray, IsLoad, directory_of, joined, FitsStep};
+ghost use Rattle.dn_locate.specs.Fetch.{idle, of_pool, started, fetch_next, fetch_turn, fetch_after, fetch_left, is_under_way, IsAstray, IsLoad, directory_of, joined, FitsStep};
 ghost use Rattle.dn_locate.specs.Sequence.{Fetches, sequence};
 
 use crate::steps::{FetchStep, after_content, after_directory, after_header, after_link};
@@ -165,13 +165,6 @@ impl Fetch {
             }
         };
         Action::Load { at }
-    }
-
-    /// Whether the next load is that of a directory word.
-    pub fn loads_directory(&self) -> bool
-        ensures { result ≡ is_directory self.now.place }
-    {
-        matches!(self.place, FetchPlace::Directory)
     }
 
     /// Takes the word that the load found, whatever it is. `Absent` comes exactly for a directory word that names no segment of the

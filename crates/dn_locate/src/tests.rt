@@ -2,7 +2,6 @@ ghost use Rattle.std.specs.Prelude.{◌≡◌, true};
 ghost use Rattle.dn_locate.specs.Fetch.{is_under_way};
 
 use crate::fetches::{Fetch, FetchTurn, Wish};
-use crate::starts::{Start, first};
 use dn_act::{Action, Memory, Sound};
 use dn_word::Ref;
 use std::process::Abort;
@@ -139,13 +138,4 @@ fn a_fetch_stays_in_the_segments_of_its_pool(rt: HostRuntime) -> Result<(), Fail
         );
     }
     Ok(())
-}
-
-#[test]
-fn the_cached_place_goes_before_the_pending_one(rt: HostRuntime) {
-    let cached = Ref { lane: 1, offset: 3 };
-    let pending = Ref { lane: 1, offset: 9 };
-    assert_eq!(rt; first(Some(cached), Some(pending)), Start::Shortcut(cached));
-    assert_eq!(rt; first(None, Some(pending)), Start::Pending(pending));
-    assert_eq!(rt; first(None, None), Start::Index);
 }

@@ -4,11 +4,11 @@ use Rattle.dn_act.specs.declared.actions.Action.{Action}
 use Rattle.dn_hist.specs.Calls.{Bytes, key_of, reply_of, map_after}
 use Rattle.dn_hist.specs.declared.receipts.Receipt.{Receipt}
 use Rattle.dn_model.specs.PoolMap.{HoldsMap}
-use Rattle.dn_lane2.specs.Asked.{call_in}
-use Rattle.dn_lane2.specs.Next.{next_of}
-use Rattle.dn_lane2.specs.State.{LaneState}
-use Rattle.dn_lane2.specs.Taken.{Taken, taken_by}
-use Rattle.dn_lane2.specs.Turns.{turn_of}
+use Rattle.dn_lane.specs.Asked.{call_in}
+use Rattle.dn_lane.specs.Next.{next_of}
+use Rattle.dn_lane.specs.State.{LaneState}
+use Rattle.dn_lane.specs.Taken.{Taken, taken_by}
+use Rattle.dn_lane.specs.Turns.{turn_of}
 use Rattle.dn_lanes.specs.Stepped.{receipt_by, LaneStepped}
 use Rattle.dn_receipts.specs.Joined.{Joins}
 use Rattle.dn_receipts.proofs.Plain.{none_keeps, its_reply, its_change}

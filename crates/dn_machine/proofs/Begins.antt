@@ -6,7 +6,7 @@ use Rattle.dn_hist.specs.declared.receipts.SessionView.{SessionView}
 use Rattle.dn_model.specs.Regions.{IsLane}
 use Rattle.dn_owners.proofs.Ats.{same_some}
 use Rattle.dn_tend.specs.declared.tasks.Task.{Task}
-use Rattle.dn_lane2.specs.State.{LaneState, begun, begun_task}
+use Rattle.dn_lane.specs.State.{LaneState, begun, begun_task}
 use Rattle.dn_beside.specs.Pool.{Pool, IsWhole}
 use Rattle.dn_beside.specs.Step.{IsStepBy, by_lane}
 use Rattle.dn_beside.proofs.Still.{learning_step}
@@ -14,7 +14,7 @@ use Rattle.dn_lanes.specs.Begun.{IsOwnTask}
 use Rattle.dn_lanes.specs.Calls.{IsCall}
 use Rattle.dn_lanes.specs.Lane.{IsLaneAt}
 use Rattle.dn_lanes.proofs.Begins.{call_begins, task_begins}
-use Rattle.dn_lane2.specs.declared.modes.Mode.TheVariants.{Idle}
+use Rattle.dn_lane.specs.declared.modes.Mode.TheVariants.{Idle}
 use Rattle.dn_machine.specs.State.{Machine}
 use Rattle.dn_machine.specs.Events.{Asks, Tends, with_lane, of_lane, happens}
 use Rattle.dn_machine.specs.Given.{IsOfSession, HasNoCall, IsFree, MayAsk}

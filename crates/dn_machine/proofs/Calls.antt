@@ -11,17 +11,17 @@ use Rattle.dn_ask.specs.declared.asks.End.TheVariants as end
 use Rattle.dn_ask.specs.declared.asks.Locate.{Locate}
 use Rattle.dn_find.specs.declared.finds.Found.{Found}
 use Rattle.dn_find.specs.declared.finds.Found.TheVariants as found
-use Rattle.dn_lane2.specs.Ends.{turn_by}
-use Rattle.dn_lane2.specs.Found.{kept_in}
-use Rattle.dn_lane2.specs.Taken.{Taken, taken_by, here_of, sought_by}
-use Rattle.dn_lane2.specs.Turns.{turned, turn_going, left, left_going}
-use Rattle.dn_lane2.specs.declared.asked.Asked.{Asked}
-use Rattle.dn_lane2.specs.declared.asked.Asked.TheVariants as asked
-use Rattle.dn_lane2.specs.declared.base.Base.{Base}
-use Rattle.dn_lane2.specs.declared.modes.Going.{Going}
-use Rattle.dn_lane2.specs.declared.modes.Going.TheVariants.{On, End}
-use Rattle.dn_lane2.specs.declared.modes.Mode.{Mode}
-use Rattle.dn_lane2.specs.declared.modes.Mode.TheVariants as mode
+use Rattle.dn_lane.specs.Ends.{turn_by}
+use Rattle.dn_lane.specs.Found.{kept_in}
+use Rattle.dn_lane.specs.Taken.{Taken, taken_by, here_of, sought_by}
+use Rattle.dn_lane.specs.Turns.{turned, turn_going, left, left_going}
+use Rattle.dn_lane.specs.declared.asked.Asked.{Asked}
+use Rattle.dn_lane.specs.declared.asked.Asked.TheVariants as asked
+use Rattle.dn_lane.specs.declared.base.Base.{Base}
+use Rattle.dn_lane.specs.declared.modes.Going.{Going}
+use Rattle.dn_lane.specs.declared.modes.Going.TheVariants.{On, End}
+use Rattle.dn_lane.specs.declared.modes.Mode.{Mode}
+use Rattle.dn_lane.specs.declared.modes.Mode.TheVariants as mode
 use Rattle.dn_lanes.specs.Stepped.{receipt_by}
 use Rattle.dn_callers.specs.Callers.{Callers}
 use Rattle.dn_callers.specs.Sessions.{IsUnderWay}

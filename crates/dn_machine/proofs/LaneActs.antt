@@ -5,10 +5,10 @@ use Rattle.dn_log.specs.Staged.{flow_of}
 use Rattle.dn_model.specs.Regions.{IsLane}
 use Rattle.dn_store.specs.State.{with_at}
 use Rattle.dn_owners.proofs.Ats.{same_some}
-use Rattle.dn_lane2.specs.Next.{next_of}
-use Rattle.dn_lane2.specs.State.{LaneState}
-use Rattle.dn_lane2.specs.Taken.{Taken, taken_by}
-use Rattle.dn_lane2.specs.Turns.{flowed_of}
+use Rattle.dn_lane.specs.Next.{next_of}
+use Rattle.dn_lane.specs.State.{LaneState}
+use Rattle.dn_lane.specs.Taken.{Taken, taken_by}
+use Rattle.dn_lane.specs.Turns.{flowed_of}
 use Rattle.dn_beside.specs.Pool.{Pool, store_in}
 use Rattle.dn_lanes.specs.Lane.{IsLaneAt}
 use Rattle.dn_lanes.specs.Stepped.{LaneStepped, FlowStepped}

@@ -11,13 +11,13 @@ use Rattle.dn_log.specs.Staged.{flow_of}
 use Rattle.dn_model.specs.Register.{may_write}
 use Rattle.dn_store.specs.State.{StoreState, with_at}
 use Rattle.dn_owners.proofs.Ats.{none_some}
-use Rattle.dn_lane2.specs.Asked.{call_in, view_in}
-use Rattle.dn_lane2.specs.Next.{next_of}
-use Rattle.dn_lane2.specs.State.{LaneState}
-use Rattle.dn_lane2.specs.Taken.{Taken, taken_by}
-use Rattle.dn_lane2.specs.Turns.{turned}
-use Rattle.dn_lane2.specs.declared.asked.Asked.{Asked}
-use Rattle.dn_lane2.specs.declared.asked.Asked.TheVariants as asked
+use Rattle.dn_lane.specs.Asked.{call_in, view_in}
+use Rattle.dn_lane.specs.Next.{next_of}
+use Rattle.dn_lane.specs.State.{LaneState}
+use Rattle.dn_lane.specs.Taken.{Taken, taken_by}
+use Rattle.dn_lane.specs.Turns.{turned}
+use Rattle.dn_lane.specs.declared.asked.Asked.{Asked}
+use Rattle.dn_lane.specs.declared.asked.Asked.TheVariants as asked
 use Rattle.dn_beside.specs.Pool.{Pool, store_in}
 use Rattle.dn_beside.specs.Step.{IsStepBy, by_lane}
 use Rattle.dn_beside.proofs.Chained.{step_then, quiet_then}

@@ -11,14 +11,14 @@ use Rattle.dn_owners.proofs.Ats.{same_some, none_some}
 use Rattle.dn_merge.specs.Merge.{Merging}
 use Rattle.dn_log.specs.declared.claims.Claim.{Claim}
 use Rattle.dn_log.specs.declared.claims.Claim.TheVariants.{Reading, Taking}
-use Rattle.dn_lane2.specs.Asked.{call_in, view_in}
-use Rattle.dn_lane2.specs.declared.modes.Mode.{Mode}
-use Rattle.dn_lane2.specs.declared.modes.Mode.TheVariants as mode
-use Rattle.dn_lane2.specs.State.{LaneState}
-use Rattle.dn_lane2.specs.Taken.{Taken}
-use Rattle.dn_lane2.specs.Turns.{turned, left}
-use Rattle.dn_lane2.specs.declared.asked.Asked.{Asked}
-use Rattle.dn_lane2.specs.declared.asked.Asked.TheVariants as asked
+use Rattle.dn_lane.specs.Asked.{call_in, view_in}
+use Rattle.dn_lane.specs.declared.modes.Mode.{Mode}
+use Rattle.dn_lane.specs.declared.modes.Mode.TheVariants as mode
+use Rattle.dn_lane.specs.State.{LaneState}
+use Rattle.dn_lane.specs.Taken.{Taken}
+use Rattle.dn_lane.specs.Turns.{turned, left}
+use Rattle.dn_lane.specs.declared.asked.Asked.{Asked}
+use Rattle.dn_lane.specs.declared.asked.Asked.TheVariants as asked
 use Rattle.dn_beside.specs.Pool.{Pool, store_in}
 use Rattle.dn_beside.specs.Step.{IsStepBy, by_lane}
 use Rattle.dn_turns.specs.Sums.{sum_to}

@@ -4,7 +4,7 @@ use Rattle.dn_owners.proofs.Ats.{none_some, same_some}
 use Rattle.dn_store.specs.State.{StoreState, with_at}
 use Rattle.dn_store.proofs.At.{at_same, at_other, at_by}
 use Rattle.dn_merge.specs.Merge.{Merging, started}
-use Rattle.dn_lane2.specs.State.{LaneState, fresh}
+use Rattle.dn_lane.specs.State.{LaneState, fresh}
 use Rattle.dn_beside.specs.Pool.{Pool, store_in}
 use Rattle.dn_beside.specs.Step.{IsStepBy, by_lane}
 use Rattle.dn_turns.specs.Claims.{asks, asking}

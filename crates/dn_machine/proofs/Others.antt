@@ -2,7 +2,7 @@ use Rattle.std.proofs.Common.{ℕ, ◌≡◌, ◌≢◌, false, Some, None}
 use Rattle.dn_model.specs.Regions.{IsLane}
 use Rattle.dn_merge.specs.Merge.{Merging}
 use Rattle.dn_monitor.specs.Monitor.{Monitoring}
-use Rattle.dn_lane2.specs.State.{LaneState}
+use Rattle.dn_lane.specs.State.{LaneState}
 use Rattle.dn_beside.specs.Pool.{Pool}
 use Rattle.dn_beside.specs.Step.{Acting, IsStepBy}
 use Rattle.dn_turns.specs.Knows.{IsMergerAt}

@@ -3,7 +3,7 @@ use Rattle.dn_act.specs.Action.{at_of, words_after, Performs, MayPerform}
 use Rattle.dn_act.specs.Words.{word_at}
 use Rattle.dn_act.specs.declared.actions.Action.{Action}
 use Rattle.dn_model.specs.Regions.{IsLane}
-use Rattle.dn_lane2.specs.State.{LaneState}
+use Rattle.dn_lane.specs.State.{LaneState}
 use Rattle.dn_beside.specs.Pool.{Pool, store_in}
 use Rattle.dn_beside.specs.Grown.{Grows}
 use Rattle.dn_beside.proofs.Still.{grows_still}

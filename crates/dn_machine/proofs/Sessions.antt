@@ -7,9 +7,9 @@ use Rattle.dn_hist.specs.declared.receipts.SessionView.{SessionView}
 use Rattle.dn_model.specs.Regions.{IsLane}
 use Rattle.dn_store.specs.State.{with_at}
 use Rattle.dn_store.proofs.At.{at_by}
-use Rattle.dn_lane2.specs.State.{LaneState}
-use Rattle.dn_lane2.specs.declared.asked.Asked.{Asked}
-use Rattle.dn_lane2.specs.declared.asked.Asked.TheVariants as asked
+use Rattle.dn_lane.specs.State.{LaneState}
+use Rattle.dn_lane.specs.declared.asked.Asked.{Asked}
+use Rattle.dn_lane.specs.declared.asked.Asked.TheVariants as asked
 use Rattle.dn_beside.specs.Pool.{Pool}
 use Rattle.dn_receipts.specs.Receipts.{AreReceipts}
 use Rattle.dn_callers.specs.Callers.{Callers, receipts_of}

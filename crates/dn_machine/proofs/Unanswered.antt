@@ -11,11 +11,11 @@ use Rattle.dn_model.specs.Register.{may_write}
 use Rattle.dn_owners.proofs.Ats.{none_some, same_some}
 use Rattle.dn_merge.specs.Merge.{Merging, started, merge_next, merge_after}
 use Rattle.dn_monitor.specs.Monitor.{Monitoring, monitor_next}
-use Rattle.dn_lane2.specs.Next.{next_of}
-use Rattle.dn_lane2.specs.State.{LaneState, begun, begun_task}
-use Rattle.dn_lane2.specs.Turns.{turn_of}
-use Rattle.dn_lane2.specs.declared.asked.Asked.{Asked}
-use Rattle.dn_lane2.specs.declared.asked.Asked.TheVariants as asked
+use Rattle.dn_lane.specs.Next.{next_of}
+use Rattle.dn_lane.specs.State.{LaneState, begun, begun_task}
+use Rattle.dn_lane.specs.Turns.{turn_of}
+use Rattle.dn_lane.specs.declared.asked.Asked.{Asked}
+use Rattle.dn_lane.specs.declared.asked.Asked.TheVariants as asked
 use Rattle.dn_lanes.specs.Stepped.{receipt_by}
 use Rattle.dn_callers.specs.Callers.{Callers, Standing}
 use Rattle.dn_machine.specs.State.{Machine}

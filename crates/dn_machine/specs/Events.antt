@@ -15,11 +15,11 @@ use Rattle.dn_tend.specs.declared.tasks.Task.{Task}
 use Rattle.dn_merge.specs.Merge.{Merging, started, merge_next, merge_after}
 use Rattle.dn_monitor.specs.Monitor.{Monitoring, begun as begun_order, monitor_next, monitor_turn, monitor_after, is_last}
 use Rattle.dn_monitor.specs.declared.orders.Order.{Order}
-use Rattle.dn_lane2.specs.Next.{next_of}
-use Rattle.dn_lane2.specs.State.{LaneState, fresh, begun, begun_task}
-use Rattle.dn_lane2.specs.Turns.{turn_of, left_of, flowed_of}
-use Rattle.dn_lane2.specs.declared.asked.Asked.{Asked}
-use Rattle.dn_lane2.specs.declared.asked.Asked.TheVariants as asked
+use Rattle.dn_lane.specs.Next.{next_of}
+use Rattle.dn_lane.specs.State.{LaneState, fresh, begun, begun_task}
+use Rattle.dn_lane.specs.Turns.{turn_of, left_of, flowed_of}
+use Rattle.dn_lane.specs.declared.asked.Asked.{Asked}
+use Rattle.dn_lane.specs.declared.asked.Asked.TheVariants as asked
 use Rattle.dn_lanes.specs.Stepped.{receipt_by}
 use Rattle.dn_callers.specs.Callers.{Callers}
 use Rattle.dn_callers.specs.Changes.{numbered_at, told_at, answered_by, closed_at, unanswered_by, routed_at, hinted_at}

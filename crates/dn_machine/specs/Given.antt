@@ -5,10 +5,10 @@ use Rattle.dn_model.specs.Regions.{IsLane}
 use Rattle.dn_monitor.specs.Monitor.{IsOrder}
 use Rattle.dn_monitor.specs.declared.orders.Order.{Order}
 use Rattle.dn_monitor.specs.declared.orders.Order.TheVariants.{Format, Takeover}
-use Rattle.dn_lane2.specs.State.{LaneState}
-use Rattle.dn_lane2.specs.declared.asked.Asked.{Asked}
-use Rattle.dn_lane2.specs.declared.asked.Asked.TheVariants as asked
-use Rattle.dn_lane2.specs.declared.modes.Mode.TheVariants.{Idle}
+use Rattle.dn_lane.specs.State.{LaneState}
+use Rattle.dn_lane.specs.declared.asked.Asked.{Asked}
+use Rattle.dn_lane.specs.declared.asked.Asked.TheVariants as asked
+use Rattle.dn_lane.specs.declared.modes.Mode.TheVariants.{Idle}
 use Rattle.dn_lanes.specs.Begun.{IsOwnTask}
 use Rattle.dn_lanes.specs.Calls.{IsCall}
 use Rattle.dn_orders.specs.Knowing.{AreLanes}

@@ -3,9 +3,9 @@ use Rattle.dn_hist.specs.Calls.{key_of}
 use Rattle.dn_model.specs.Regions.{IsLane}
 use Rattle.dn_merge.specs.Merge.{Merging}
 use Rattle.dn_monitor.specs.Monitor.{Monitoring}
-use Rattle.dn_lane2.specs.State.{LaneState}
-use Rattle.dn_lane2.specs.declared.asked.Asked.{Asked}
-use Rattle.dn_lane2.specs.declared.asked.Asked.TheVariants as asked
+use Rattle.dn_lane.specs.State.{LaneState}
+use Rattle.dn_lane.specs.declared.asked.Asked.{Asked}
+use Rattle.dn_lane.specs.declared.asked.Asked.TheVariants as asked
 use Rattle.dn_beside.specs.Pool.{Pool, store_in, IsWhole}
 use Rattle.dn_turns.specs.Claims.{asking}
 use Rattle.dn_turns.specs.Knows.{IsMergerAt}

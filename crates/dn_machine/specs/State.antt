@@ -1,7 +1,7 @@
 use Rattle.std.specs.Prelude.{ℕ, List, Option, None}
 use Rattle.dn_merge.specs.Merge.{Merging}
 use Rattle.dn_monitor.specs.Monitor.{Monitoring}
-use Rattle.dn_lane2.specs.State.{LaneState}
+use Rattle.dn_lane.specs.State.{LaneState}
 use Rattle.dn_callers.specs.Callers.{Callers, fresh_callers}
 
 -- The words of a pool and all who act on them.

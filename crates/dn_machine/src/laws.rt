@@ -12,9 +12,9 @@ ghost use Rattle.dn_store.specs.Fresh.{IsFreshPool};
 ghost use Rattle.dn_monitor.specs.Monitor.{begun};
 ghost use Rattle.dn_monitor.specs.declared.orders.Order.TheVariants as order;
 ghost use Rattle.dn_route.specs.CallersOrder.{KeepsCallersOrder};
-ghost use Rattle.dn_lane2.specs.Next.{next_of};
-ghost use Rattle.dn_lane2.specs.State.{LaneState};
-ghost use Rattle.dn_lane2.specs.Turns.{turn_of};
+ghost use Rattle.dn_lane.specs.Next.{next_of};
+ghost use Rattle.dn_lane.specs.State.{LaneState};
+ghost use Rattle.dn_lane.specs.Turns.{turn_of};
 ghost use Rattle.dn_lanes.specs.Stepped.{receipt_by};
 ghost use Rattle.dn_callers.specs.Callers.{Standing, receipts_of};
 ghost use Rattle.dn_callers.specs.Sessions.{IsSession};
@@ -30,7 +30,7 @@ ghost use Rattle.dn_machine.specs.Histories.{IsHistory, IsSealedIn};
 /// owns a slot. So are the words that an opening leaves for 1 to 63 lanes, before anybody acts.
 pub fn opening()
     ensures format { (words : List ℕ) (segments : ℕ) (heirs : List ℕ) → IsZeros words
-        → length words ≡ pool_size segments → segments ≤ 8192 → IsSound segments (happens
+        → pool_size segments ≤ length words → segments ≤ 8192 → IsSound segments (happens
         (record (resting words) { monitor = Some (begun (order.Format segments) heirs) })
         (Acts Monitor)) }
     ensures granted { (words : List ℕ) (pool lanes : ℕ) (owners : ℕ → ℕ)

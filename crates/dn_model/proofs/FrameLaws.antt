@@ -89,50 +89,6 @@ map_frame words now map s h = record {
   no_key = h.no_key;
 }
 
--- ---- stores that the map doesn't rest on
--- a word of a segment that isn't a sealed one
-pub segment_stored : (words : List ℕ) (at new : ℕ) → 98304 ≤ at → ((n o : ℕ) → IsLane n → o < (gate words n).len → place words n o ≢ at) → SamePool words (slice_set words at new)
-segment_stored words at new high apart = record {
-  logs = λ n l. record {
-    len_is = ap (λ w. (gate_of w).len) (word_at-set_other words at (gate_at n) new (λ e. absurd (omega (arith, e, l.below))));
-    directory_is = λ q lt pos. word_at-set_other words at (directory_at n q) new (λ e. absurd (omega (arith, e, l.below)));
-    words_are = λ o lt. word_at-set_other words at (place words n o) new (apart n o l lt);
-  };
-  marks = λ n l. word_at-set_other words at (mark_at n) new (λ e. absurd (omega (arith, e, l.below)));
-  deeds = λ s lt. ap (λ w. (deed_of w).lane) (word_at-set_other words at (deed_at s) new (λ e. absurd (omega (arith, e))));
-  cells = λ j lt. word_at-set_other words at (cell_at j) new (λ e. absurd (omega (arith, e)));
-  buckets = record { same = λ b i lt pos below. word_at-set_other words at (bucket_at b i) new (λ e. absurd (omega (arith, e))) };
-}
-
--- a word of a directory that named no segment
-pub directory_stored : (words : List ℕ) (n q new : ℕ) → n < 64 → q < 256 → directory words n q ≡ 0 → SamePool words (slice_set words (directory_at n q) new)
-directory_stored words n q new nl ql z = record {
-  logs = λ m l. record {
-    len_is = ap (λ w. (gate_of w).len) (word_at-set_other words (directory_at n q) (gate_at m) new (λ e. absurd (omega (arith, e, l.below))));
-    directory_is = λ r lt pos. word_at-set_other words (directory_at n q) (directory_at m r) new (λ e.
-        let y : directory words m r ≡ 0 = ap (λ x. word_at words x) e ∙ z in absurd (omega (arith, y, pos)));
-    words_are = λ o lt. word_at-set_other words (directory_at n q) (place words m o) new (λ e. absurd (omega (arith, e)));
-  };
-  marks = λ m l. word_at-set_other words (directory_at n q) (mark_at m) new (λ e. absurd (omega (arith, e, l.below)));
-  deeds = λ s lt. ap (λ w. (deed_of w).lane) (word_at-set_other words (directory_at n q) (deed_at s) new (λ e. absurd (omega (arith, e))));
-  cells = λ j lt. word_at-set_other words (directory_at n q) (cell_at j) new (λ e. absurd (omega (arith, e)));
-  buckets = record { same = λ b i lt pos below. word_at-set_other words (directory_at n q) (bucket_at b i) new (λ e. absurd (omega (arith, e))) };
-}
-
--- one of the three counters or the format
-pub counter_stored : (words : List ℕ) (at new : ℕ) → at < 64 → SamePool words (slice_set words at new)
-counter_stored words at new low = record {
-  logs = λ n l. record {
-    len_is = ap (λ w. (gate_of w).len) (word_at-set_other words at (gate_at n) new (λ e. absurd (omega (arith, e))));
-    directory_is = λ q lt pos. word_at-set_other words at (directory_at n q) new (λ e. absurd (omega (arith, e)));
-    words_are = λ o lt. word_at-set_other words at (place words n o) new (λ e. absurd (omega (arith, e)));
-  };
-  marks = λ n l. word_at-set_other words at (mark_at n) new (λ e. absurd (omega (arith, e)));
-  deeds = λ s lt. ap (λ w. (deed_of w).lane) (word_at-set_other words at (deed_at s) new (λ e. absurd (omega (arith, e))));
-  cells = λ j lt. word_at-set_other words at (cell_at j) new (λ e. absurd (omega (arith, e)));
-  buckets = record { same = λ b i lt pos below. word_at-set_other words at (bucket_at b i) new (λ e. absurd (omega (arith, e))) };
-}
-
 -- ---- the pool with one log
 pub one_log_kept : (words now : List ℕ) (n : ℕ) (log : List Placed) → SamePool words now → IsOneLog words n log → IsOneLog now n log
 one_log_kept words now n log s h = record {

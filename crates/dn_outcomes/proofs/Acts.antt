@@ -18,19 +18,19 @@ use Rattle.dn_plan.specs.declared.results.Ending.{Ending}
 use Rattle.dn_plan.specs.declared.results.Ending.TheVariants as ending
 use Rattle.dn_ask.specs.declared.asks.End.{End as EndOf}
 use Rattle.dn_ask.specs.declared.asks.End.TheVariants as end
-use Rattle.dn_lane2.specs.Asked.{view_in}
-use Rattle.dn_lane2.specs.Ends.{receipt_of, answer_of as answer_to}
-use Rattle.dn_lane2.specs.Next.{next_of}
-use Rattle.dn_lane2.specs.State.{LaneState}
-use Rattle.dn_lane2.specs.Taken.{Taken, taken_by}
-use Rattle.dn_lane2.specs.Turns.{turn_of, turn_going, left_going}
-use Rattle.dn_lane2.specs.declared.asked.Asked.{Asked}
-use Rattle.dn_lane2.specs.declared.asked.Asked.TheVariants as asked
-use Rattle.dn_lane2.specs.declared.base.Base.{Base}
-use Rattle.dn_lane2.specs.declared.modes.Going.{Going}
-use Rattle.dn_lane2.specs.declared.modes.Going.TheVariants.{On, End}
-use Rattle.dn_lane2.specs.declared.modes.Mode.{Mode}
-use Rattle.dn_lane2.specs.declared.modes.Mode.TheVariants as mode
+use Rattle.dn_lane.specs.Asked.{view_in}
+use Rattle.dn_lane.specs.Ends.{receipt_of, answer_of as answer_to}
+use Rattle.dn_lane.specs.Next.{next_of}
+use Rattle.dn_lane.specs.State.{LaneState}
+use Rattle.dn_lane.specs.Taken.{Taken, taken_by}
+use Rattle.dn_lane.specs.Turns.{turn_of, turn_going, left_going}
+use Rattle.dn_lane.specs.declared.asked.Asked.{Asked}
+use Rattle.dn_lane.specs.declared.asked.Asked.TheVariants as asked
+use Rattle.dn_lane.specs.declared.base.Base.{Base}
+use Rattle.dn_lane.specs.declared.modes.Going.{Going}
+use Rattle.dn_lane.specs.declared.modes.Going.TheVariants.{On, End}
+use Rattle.dn_lane.specs.declared.modes.Mode.{Mode}
+use Rattle.dn_lane.specs.declared.modes.Mode.TheVariants as mode
 use Rattle.dn_lanes.specs.Stepped.{receipt_by, IsOfCall, LaneStepped}
 use Rattle.dn_parts.proofs.PartsStamps.{are_bound}
 use Rattle.dn_callers.specs.Callers.{Callers, Standing}

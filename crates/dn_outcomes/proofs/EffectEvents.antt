@@ -14,7 +14,7 @@ use Rattle.dn_monitor.specs.declared.orders.MonitorTurn.TheVariants as turn
 use Rattle.dn_monitor.specs.declared.orders.Order.{Order}
 use Rattle.dn_receipts.proofs.Plain.{none_keeps}
 use Rattle.dn_tend.specs.declared.tasks.Task.{Task}
-use Rattle.dn_lane2.specs.State.{LaneState}
+use Rattle.dn_lane.specs.State.{LaneState}
 use Rattle.dn_lanes.specs.Stepped.{FlowStepped}
 use Rattle.dn_lanes.proofs.Steps.{lane_flows}
 use Rattle.dn_machine.specs.Events.{Merger, Monitor, Acts, found, loaded as loaded_machine}

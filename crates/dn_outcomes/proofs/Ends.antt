@@ -5,7 +5,7 @@ use Rattle.dn_hist.specs.declared.receipts.SessionView.{SessionView}
 use Rattle.dn_model.specs.Regions.{IsLane}
 use Rattle.dn_store.specs.State.{with_at}
 use Rattle.dn_store.proofs.At.{at_same, at_other, at_by}
-use Rattle.dn_lane2.specs.State.{LaneState}
+use Rattle.dn_lane.specs.State.{LaneState}
 use Rattle.dn_callers.specs.Callers.{Callers}
 use Rattle.dn_callers.specs.Sessions.{IsSession}
 use Rattle.dn_machine.specs.Given.{IsOfSession}

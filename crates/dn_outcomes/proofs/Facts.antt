@@ -3,7 +3,7 @@ use Rattle.std.proofs.lemmas.Option.{same_Some, none-some}
 use Rattle.dn_monitor.specs.Monitor.{IsOrder}
 use Rattle.dn_monitor.specs.declared.orders.Order.{Order}
 use Rattle.dn_orders.proofs.Takeovers.{heirs_are}
-use Rattle.dn_lane2.specs.Asked.{call_in}
+use Rattle.dn_lane.specs.Asked.{call_in}
 use Rattle.dn_outcomes.specs.Starts.{lane_or_none}
 use Rattle.std.proofs.lemmas.Bool.{and_parts, ltb-true, leb-true}
 use Rattle.dn_hist.specs.Calls.{key_of}
@@ -13,12 +13,12 @@ use Rattle.dn_hist.specs.declared.receipts.SessionView.{SessionView}
 use Rattle.dn_merge.specs.Merge.{Merging}
 use Rattle.dn_model.specs.Regions.{IsLane}
 use Rattle.dn_tend.specs.declared.tasks.Task.{Task}
-use Rattle.dn_lane2.specs.Left.{is_working}
-use Rattle.dn_lane2.specs.State.{LaneState}
-use Rattle.dn_lane2.specs.declared.asked.Asked.{Asked}
-use Rattle.dn_lane2.specs.declared.asked.Asked.TheVariants as asked
-use Rattle.dn_lane2.specs.declared.modes.Mode.{Mode}
-use Rattle.dn_lane2.specs.declared.modes.Mode.TheVariants as mode
+use Rattle.dn_lane.specs.Left.{is_working}
+use Rattle.dn_lane.specs.State.{LaneState}
+use Rattle.dn_lane.specs.declared.asked.Asked.{Asked}
+use Rattle.dn_lane.specs.declared.asked.Asked.TheVariants as asked
+use Rattle.dn_lane.specs.declared.modes.Mode.{Mode}
+use Rattle.dn_lane.specs.declared.modes.Mode.TheVariants as mode
 use Rattle.dn_lanes.specs.Begun.{IsOwnTask}
 use Rattle.dn_lanes.specs.Calls.{IsCall}
 use Rattle.dn_lanes.specs.Phases.{IsAt}
@@ -47,9 +47,6 @@ made_lane w n h e = (let p = and_parts (nat_lt 0 n) (nat_le n w.made) e in recor
 
 pub made_most : (w : World) (n : ℕ) → IsWorld w → is_made w n ≡ true → n ≤ w.made
 made_most w n h e = leb-true n w.made (and_parts (nat_lt 0 n) (nat_le n w.made) e).1
-
-pub made_merger : (w : World) (n : ℕ) → IsWorld w → is_made w n ≡ true → (x : Merging) × (w.machine.mergers n ≡ Some x)
-made_merger w n h e = (let l : IsLane n = made_lane w n h e in h.made.yes_made n (omega (arith, l.positive)) (made_most w n h e))
 
 -- ---- a lane at which nothing is under way
 at_rest : (m : Mode) → is_working m ≡ false → m ≡ mode.Idle
@@ -207,17 +204,6 @@ loading w s slot h i e =
     at_load (Loading named) other e = tt
     at_load (Queued lane) other e = absurd (cc e)
     at_load (Begun lane) other e = absurd (cc e)
-
-pub loading_slot : (w : World) (s slot : ℕ) → IsWorld w → IsSession s → w.machine.loads s ≡ Some slot → slot ≡ slot_at (call_of w.waiting s)
-loading_slot w s slot h i e = (let f = loads_for w s slot h i e in f.1.slot_is ∙ ap slot_at (sym f.1.is))
-
--- a call that is there has its session's last number
-pub call_number : (w : World) (s : ℕ) (c : OpenCall) → IsWorld w → IsSession s → call_of w.waiting s ≡ Some c → c.number ≡ (w.machine.callers.sessions s).number
-call_number w s c h i is = (h.calls.calls s c i is).number
-
--- ---- what a lane was asked is the attempt that is under way there
-pub begun_view : (w : World) (n : ℕ) (l : LaneState) → IsWorld w → IsLane n → w.machine.lanes n ≡ Some l → (at_lane w.waiting n).begun ≡ view_by l.asked
-begun_view w n l h lane is = h.asked.begun n lane ∙ ap view_at is
 
 its_call : (w : WaitingState) (a : Asked) (view : SessionView) → view_by a ≡ Some view → IsAskedBy w a → called (call_of w view.session) ≡ call_in a
 its_call w asked.Nothing view e h = absurd (none-some view e)

@@ -7,9 +7,9 @@ use Rattle.dn_model.proofs.HashLaws.{slot_below}
 use Rattle.dn_store.specs.State.{with_at}
 use Rattle.dn_store.proofs.At.{at_same, at_other}
 use Rattle.dn_tend.specs.declared.tasks.Task.{Task}
-use Rattle.dn_lane2.specs.State.{LaneState}
-use Rattle.dn_lane2.specs.declared.asked.Asked.{Asked}
-use Rattle.dn_lane2.specs.declared.asked.Asked.TheVariants as asked
+use Rattle.dn_lane.specs.State.{LaneState}
+use Rattle.dn_lane.specs.declared.asked.Asked.{Asked}
+use Rattle.dn_lane.specs.declared.asked.Asked.TheVariants as asked
 use Rattle.dn_lanes.specs.Begun.{IsOwnTask}
 use Rattle.dn_callers.specs.Callers.{Callers}
 use Rattle.dn_callers.specs.Sessions.{IsSession}

@@ -11,12 +11,12 @@ use Rattle.dn_monitor.specs.declared.orders.Order.{Order}
 use Rattle.dn_route.specs.SessionState.{SessionState, view_of, numbered}
 use Rattle.dn_store.proofs.At.{at_other}
 use Rattle.dn_tend.specs.declared.tasks.Task.{Task}
-use Rattle.dn_lane2.specs.Left.{is_working}
-use Rattle.dn_lane2.specs.Next.{next_of}
-use Rattle.dn_lane2.specs.State.{LaneState, begun}
-use Rattle.dn_lane2.specs.Turns.{turn_of}
-use Rattle.dn_lane2.specs.declared.answers.Turn.{Turn}
-use Rattle.dn_lane2.specs.declared.answers.Turn.TheVariants.{More, Done as Ended, Tended as EndedTask}
+use Rattle.dn_lane.specs.Left.{is_working}
+use Rattle.dn_lane.specs.Next.{next_of}
+use Rattle.dn_lane.specs.State.{LaneState, begun}
+use Rattle.dn_lane.specs.Turns.{turn_of}
+use Rattle.dn_lane.specs.declared.answers.Turn.{Turn}
+use Rattle.dn_lane.specs.declared.answers.Turn.TheVariants.{More, Done as Ended, Tended as EndedTask}
 use Rattle.dn_machine.specs.Events.{Lane, Monitor, Session, Acts, Numbers, found, Tends, Asks}
 use Rattle.dn_machine.specs.State.{Machine}
 use Rattle.dn_waiting.specs.Attempts.{at_first, course_to, started, after_load, named_in, course_loaded, course_settled}

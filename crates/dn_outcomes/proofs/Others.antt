@@ -14,8 +14,8 @@ use Rattle.dn_store.specs.State.{with_at}
 use Rattle.dn_store.proofs.At.{at_other, at_by}
 use Rattle.dn_tend.specs.declared.tasks.Task.{Task}
 use Rattle.dn_tend.specs.declared.tasks.Task.TheVariants.{Release}
-use Rattle.dn_lane2.specs.State.{LaneState, fresh}
-use Rattle.dn_lane2.specs.Turns.{flowed_of}
+use Rattle.dn_lane.specs.State.{LaneState, fresh}
+use Rattle.dn_lane.specs.Turns.{flowed_of}
 use Rattle.dn_lanes.specs.Begun.{IsOwnTask}
 use Rattle.dn_machine.specs.Events.{Merger, Monitor, Acts, Flows, Adds, Orders, acted, found, of_lane, with_lane, lane_flows, of_merger, with_merger, of_monitor, monitor_does, happens}
 use Rattle.dn_machine.specs.Sound.{IsSound}

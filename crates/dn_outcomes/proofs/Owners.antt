@@ -13,19 +13,19 @@ use Rattle.dn_plan.specs.declared.results.Ending.{Ending}
 use Rattle.dn_plan.specs.declared.results.Ending.TheVariants as ending
 use Rattle.dn_ask.specs.declared.asks.End.TheVariants as end
 use Rattle.dn_tend.specs.declared.tasks.Task.{Task}
-use Rattle.dn_lane2.specs.Asked.{call_in}
-use Rattle.dn_lane2.specs.Ends.{answer_of as answer_to}
-use Rattle.dn_lane2.specs.Left.{is_working}
-use Rattle.dn_lane2.specs.Next.{next_in, next_of}
-use Rattle.dn_lane2.specs.State.{LaneState}
-use Rattle.dn_lane2.specs.Taken.{Taken}
-use Rattle.dn_lane2.specs.Turns.{turn_of, turn_going}
-use Rattle.dn_lane2.specs.declared.asked.Asked.{Asked}
-use Rattle.dn_lane2.specs.declared.asked.Asked.TheVariants as asked
-use Rattle.dn_lane2.specs.declared.base.Base.{Base}
-use Rattle.dn_lane2.specs.declared.modes.Going.{Going}
-use Rattle.dn_lane2.specs.declared.modes.Going.TheVariants.{On, End}
-use Rattle.dn_lane2.specs.declared.modes.Mode.{Mode}
+use Rattle.dn_lane.specs.Asked.{call_in}
+use Rattle.dn_lane.specs.Ends.{answer_of as answer_to}
+use Rattle.dn_lane.specs.Left.{is_working}
+use Rattle.dn_lane.specs.Next.{next_in, next_of}
+use Rattle.dn_lane.specs.State.{LaneState}
+use Rattle.dn_lane.specs.Taken.{Taken}
+use Rattle.dn_lane.specs.Turns.{turn_of, turn_going}
+use Rattle.dn_lane.specs.declared.asked.Asked.{Asked}
+use Rattle.dn_lane.specs.declared.asked.Asked.TheVariants as asked
+use Rattle.dn_lane.specs.declared.base.Base.{Base}
+use Rattle.dn_lane.specs.declared.modes.Going.{Going}
+use Rattle.dn_lane.specs.declared.modes.Going.TheVariants.{On, End}
+use Rattle.dn_lane.specs.declared.modes.Mode.{Mode}
 use Rattle.dn_machine.specs.Events.{Asks, Tends, found}
 use Rattle.dn_machine.specs.State.{Machine}
 use Rattle.dn_waiting.specs.State.{call_of, at_lane}

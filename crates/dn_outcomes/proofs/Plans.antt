@@ -24,15 +24,15 @@ use Rattle.dn_services.specs.declared.rooms.RoomTurn.TheVariants as turn
 use Rattle.dn_services.specs.declared.seals.Seal.{Seal}
 use Rattle.dn_services.specs.declared.seals.SealTurn.{SealTurn}
 use Rattle.dn_services.specs.declared.seals.SealTurn.TheVariants as sealing
-use Rattle.dn_lane2.specs.Asked.{words_in}
-use Rattle.dn_lane2.specs.Taken.{entered_then, roomed_by, entered_after, entered_next, entered, learnt_by, sought_by, sealed_by, taken_by}
-use Rattle.dn_lane2.specs.declared.asked.Asked.{Asked}
-use Rattle.dn_lane2.specs.declared.asked.Asked.TheVariants as asked
-use Rattle.dn_lane2.specs.declared.base.Base.{Base}
-use Rattle.dn_lane2.specs.declared.modes.Going.{Going}
-use Rattle.dn_lane2.specs.declared.modes.Going.TheVariants.{On, End}
-use Rattle.dn_lane2.specs.declared.modes.Mode.{Mode}
-use Rattle.dn_lane2.specs.declared.modes.Mode.TheVariants as mode
+use Rattle.dn_lane.specs.Asked.{words_in}
+use Rattle.dn_lane.specs.Taken.{entered_then, roomed_by, entered_after, entered_next, entered, learnt_by, sought_by, sealed_by, taken_by}
+use Rattle.dn_lane.specs.declared.asked.Asked.{Asked}
+use Rattle.dn_lane.specs.declared.asked.Asked.TheVariants as asked
+use Rattle.dn_lane.specs.declared.base.Base.{Base}
+use Rattle.dn_lane.specs.declared.modes.Going.{Going}
+use Rattle.dn_lane.specs.declared.modes.Going.TheVariants.{On, End}
+use Rattle.dn_lane.specs.declared.modes.Mode.{Mode}
+use Rattle.dn_lane.specs.declared.modes.Mode.TheVariants as mode
 use Rattle.dn_machine.proofs.Calls.{SameCall}
 use Rattle.dn_outcomes.specs.Sound.{is_calling, IsPlanOf}
 

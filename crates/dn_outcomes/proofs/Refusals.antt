@@ -12,12 +12,12 @@ use Rattle.dn_monitor.specs.declared.orders.MonitorTurn.{MonitorTurn}
 use Rattle.dn_monitor.specs.declared.orders.MonitorTurn.TheVariants as turn
 use Rattle.dn_monitor.specs.declared.orders.Order.{Order}
 use Rattle.dn_tend.specs.declared.tasks.Task.{Task}
-use Rattle.dn_lane2.specs.Left.{is_working}
-use Rattle.dn_lane2.specs.Next.{next_of}
-use Rattle.dn_lane2.specs.State.{LaneState}
-use Rattle.dn_lane2.specs.Turns.{turn_of}
-use Rattle.dn_lane2.specs.declared.answers.Turn.{Turn}
-use Rattle.dn_lane2.specs.declared.answers.Turn.TheVariants.{More, Done as Ended, Tended as EndedTask}
+use Rattle.dn_lane.specs.Left.{is_working}
+use Rattle.dn_lane.specs.Next.{next_of}
+use Rattle.dn_lane.specs.State.{LaneState}
+use Rattle.dn_lane.specs.Turns.{turn_of}
+use Rattle.dn_lane.specs.declared.answers.Turn.{Turn}
+use Rattle.dn_lane.specs.declared.answers.Turn.TheVariants.{More, Done as Ended, Tended as EndedTask}
 use Rattle.dn_machine.specs.Events.{Session, Lane, Acts, Asks, Tends, found}
 use Rattle.dn_waiting.specs.State.{call_of, at_lane}
 use Rattle.dn_waiting.specs.Turns.{next_at}

@@ -10,9 +10,9 @@ use Rattle.dn_route.specs.SessionState.{SessionState}
 use Rattle.dn_store.specs.State.{with_at}
 use Rattle.dn_store.proofs.At.{at_by}
 use Rattle.dn_tend.specs.declared.tasks.Task.{Task}
-use Rattle.dn_lane2.specs.Next.{next_of}
-use Rattle.dn_lane2.specs.State.{LaneState, begun, begun_task}
-use Rattle.dn_lane2.specs.Turns.{turn_of}
+use Rattle.dn_lane.specs.Next.{next_of}
+use Rattle.dn_lane.specs.State.{LaneState, begun, begun_task}
+use Rattle.dn_lane.specs.Turns.{turn_of}
 use Rattle.dn_lanes.specs.Stepped.{receipt_by}
 use Rattle.dn_callers.specs.Callers.{Callers}
 use Rattle.dn_machine.specs.Events.{Lane, Merger, Monitor, Session, Acts, Flows, found, answered, lane_does, lane_flows, of_lane, of_merger, of_monitor, monitor_does, loaded, with_lane, with_merger, acted, happens, Tends, Asks}

@@ -4,8 +4,8 @@ use Rattle.dn_hist.specs.declared.calls.Call.{Call}
 use Rattle.dn_hist.specs.declared.receipts.SessionView.{SessionView}
 use Rattle.dn_model.specs.Regions.{IsLane}
 use Rattle.dn_tend.specs.declared.tasks.Task.{Task}
-use Rattle.dn_lane2.specs.Left.{is_working}
-use Rattle.dn_lane2.specs.State.{LaneState, begun, begun_task}
+use Rattle.dn_lane.specs.Left.{is_working}
+use Rattle.dn_lane.specs.State.{LaneState, begun, begun_task}
 use Rattle.dn_callers.specs.Callers.{Callers}
 use Rattle.dn_callers.specs.Sessions.{IsSession}
 use Rattle.dn_machine.specs.Events.{Asks, Tends, of_lane, with_lane, happens}

@@ -11,7 +11,7 @@ use Rattle.dn_monitor.specs.declared.orders.MonitorTurn.TheVariants as turn
 use Rattle.dn_monitor.specs.declared.orders.Order.{Order}
 use Rattle.dn_tend.specs.declared.tasks.Task.{Task}
 use Rattle.dn_tend.specs.declared.tasks.Task.TheVariants.{Release}
-use Rattle.dn_lane2.specs.State.{LaneState}
+use Rattle.dn_lane.specs.State.{LaneState}
 use Rattle.dn_callers.specs.Sessions.{IsSession}
 use Rattle.dn_machine.specs.Events.{Merger, Monitor, Acts, Flows, Tells, found, acted, with_merger, of_merger, of_monitor, monitor_does}
 use Rattle.dn_machine.specs.State.{Machine}

@@ -4,8 +4,8 @@ use Rattle.dn_hist.specs.declared.calls.Call.{Call}
 use Rattle.dn_hist.specs.declared.calls.Call.TheVariants.{Get}
 use Rattle.dn_hist.specs.declared.receipts.SessionView.{SessionView}
 use Rattle.dn_model.specs.Regions.{slot_of}
-use Rattle.dn_lane2.specs.declared.answers.Answer.{Answer}
-use Rattle.dn_lane2.specs.declared.answers.Answer.TheVariants as answer
+use Rattle.dn_lane.specs.declared.answers.Answer.{Answer}
+use Rattle.dn_lane.specs.declared.answers.Answer.TheVariants as answer
 use Rattle.dn_machine.specs.Events.{Loads}
 use Rattle.dn_waiting.specs.State.{call_of, at_lane}
 use Rattle.dn_waiting.specs.Attempts.{answered, course_settled}

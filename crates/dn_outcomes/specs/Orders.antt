@@ -13,7 +13,7 @@ use Rattle.dn_monitor.specs.declared.orders.MonitorAnswer.{MonitorAnswer}
 use Rattle.dn_monitor.specs.declared.orders.MonitorAnswer.TheVariants as told
 use Rattle.dn_monitor.specs.declared.orders.MonitorTurn.{MonitorTurn}
 use Rattle.dn_monitor.specs.declared.orders.MonitorTurn.TheVariants as turn
-use Rattle.dn_lane2.specs.State.{LaneState}
+use Rattle.dn_lane.specs.State.{LaneState}
 use Rattle.dn_machine.specs.Events.{Monitor, Acts, Orders, found}
 use Rattle.dn_waiting.specs.Turns.{released}
 use Rattle.dn_outcomes.specs.declared.leaving.Leaving.{Leaving}

@@ -2,7 +2,7 @@
 //!
 //! A world is a machine over the words of a pool, the number of lanes that were made, the calls and tasks that wait, and the
 //! lanes that are live. `does`, in `specs/Does.antt`, is one function that says of every event what the world is after it and
-//! what its outcome is; `dn_world2` carries it out. [`laws`] has what is so of all worlds.
+//! what its outcome is; `dn_world` carries it out. [`laws`] has what is so of all worlds.
 #![tactic(auto)]
 
 mod events;

@@ -11,11 +11,11 @@ use Rattle.dn_owners.specs.Known.{Look}
 use Rattle.dn_owners.proofs.Logs.{nil_has}
 use Rattle.dn_beside.specs.Pool.{Pool, store_in}
 use Rattle.dn_reach.specs.Staging.{MayStageAll}
-use Rattle.dn_lane2.specs.State.{LaneState}
-use Rattle.dn_lane2.specs.declared.asked.Asked.{Asked}
-use Rattle.dn_lane2.specs.declared.base.Base.{Base}
-use Rattle.dn_lane2.specs.declared.modes.Mode.{Mode}
-use Rattle.dn_lane2.specs.declared.modes.Mode.TheVariants as mode
+use Rattle.dn_lane.specs.State.{LaneState}
+use Rattle.dn_lane.specs.declared.asked.Asked.{Asked}
+use Rattle.dn_lane.specs.declared.base.Base.{Base}
+use Rattle.dn_lane.specs.declared.modes.Mode.{Mode}
+use Rattle.dn_lane.specs.declared.modes.Mode.TheVariants as mode
 use Rattle.dn_lanes.specs.Lane.{IsLaneAt}
 use Rattle.dn_lanes.specs.Phases.{IsAt}
 use Rattle.dn_machine.specs.State.{Machine}

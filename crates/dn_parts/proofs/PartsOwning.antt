@@ -21,11 +21,11 @@ use Rattle.dn_pending.specs.declared.entries.Entry.{Entry}
 use Rattle.dn_pending.specs.Entries.{last_of}
 use Rattle.dn_known.specs.State.{KnownState}
 use Rattle.dn_known.specs.Counting.{count_of, at_least, place_of, pending_of, IsCounting}
-use Rattle.dn_lane2.specs.State.{LaneState}
-use Rattle.dn_lane2.specs.declared.asked.Asked.{Asked}
-use Rattle.dn_lane2.specs.declared.base.Base.{Base}
-use Rattle.dn_lane2.specs.declared.modes.Mode.{Mode}
-use Rattle.dn_lane2.specs.declared.modes.Mode.TheVariants as mode
+use Rattle.dn_lane.specs.State.{LaneState}
+use Rattle.dn_lane.specs.declared.asked.Asked.{Asked}
+use Rattle.dn_lane.specs.declared.base.Base.{Base}
+use Rattle.dn_lane.specs.declared.modes.Mode.{Mode}
+use Rattle.dn_lane.specs.declared.modes.Mode.TheVariants as mode
 use Rattle.dn_owners.specs.declared.plain.Pending.{Pending}
 use Rattle.dn_owners.specs.Counting.{pending_from, last_counting}
 use Rattle.dn_owners.specs.Known.{Look, Learnt}

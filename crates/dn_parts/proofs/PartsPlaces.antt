@@ -9,12 +9,12 @@ use Rattle.dn_hist.specs.declared.calls.Call.TheVariants.{Get}
 use Rattle.dn_hist.specs.declared.calls.Reply.{Reply}
 use Rattle.dn_hist.specs.declared.receipts.SessionView.{SessionView}
 use Rattle.dn_index.specs.Walk.{Walking}
-use Rattle.dn_lane2.specs.Asked.{call_in, brief_of}
-use Rattle.dn_lane2.specs.Ends.{reply_in}
-use Rattle.dn_lane2.specs.State.{LaneState}
-use Rattle.dn_lane2.specs.declared.asked.Asked.{Asked}
-use Rattle.dn_lane2.specs.declared.base.Base.{Base}
-use Rattle.dn_lane2.specs.declared.modes.Mode.{Mode}
+use Rattle.dn_lane.specs.Asked.{call_in, brief_of}
+use Rattle.dn_lane.specs.Ends.{reply_in}
+use Rattle.dn_lane.specs.State.{LaneState}
+use Rattle.dn_lane.specs.declared.asked.Asked.{Asked}
+use Rattle.dn_lane.specs.declared.base.Base.{Base}
+use Rattle.dn_lane.specs.declared.modes.Mode.{Mode}
 use Rattle.dn_lanes.proofs.Called.{is_call, call_record, call_key, positive}
 use Rattle.dn_lanes.specs.Calls.{key_in}
 use Rattle.dn_lanes.specs.Lane.{IsLaneAt}
@@ -62,8 +62,8 @@ use Rattle.dn_plan.specs.declared.phases.SealPhase.TheVariants as sealing
 use Rattle.dn_ask.specs.declared.asks.Act.TheVariants as act
 use Rattle.dn_ask.specs.declared.asks.FindRoom.TheVariants as room
 use Rattle.dn_ask.specs.declared.asks.Seal.TheVariants as seal
-use Rattle.dn_lane2.specs.declared.asked.Asked.TheVariants as asked
-use Rattle.dn_lane2.specs.declared.modes.Mode.TheVariants as mode
+use Rattle.dn_lane.specs.declared.asked.Asked.TheVariants as asked
+use Rattle.dn_lane.specs.declared.modes.Mode.TheVariants as mode
 use Rattle.dn_find.specs.declared.finds.Find.TheVariants as find
 use Rattle.dn_ask.specs.declared.asks.Locate.TheVariants as locate
 

@@ -15,7 +15,7 @@ use Rattle.dn_store.specs.Cut.{words_in}
 use Rattle.dn_owners.proofs.Ats.{none_some, same_some}
 use Rattle.dn_owners.proofs.Logs.{nil_has, head_has, tail_has, cons_cases}
 use Rattle.dn_beside.specs.Pool.{Pool, store_in, IsWhole}
-use Rattle.dn_lane2.specs.State.{LaneState}
+use Rattle.dn_lane.specs.State.{LaneState}
 use Rattle.dn_machine.specs.State.{Machine}
 use Rattle.dn_machine.specs.Sound.{IsMachineAt}
 use Rattle.dn_parts.specs.Sealed.{IsSealed}

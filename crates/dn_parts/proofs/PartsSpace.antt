@@ -2,7 +2,7 @@ use Rattle.std.proofs.Common.{ℕ, ◌+◌, ◌<◌, ◌≡◌, inl, inr, length
 use Rattle.std.proofs.lemmas.List.Elements.{All-get_or}
 use Rattle.dn_model.specs.Regions.{directory, IsLane}
 use Rattle.dn_log.specs.Log.{Log, reach_of}
-use Rattle.dn_lane2.specs.State.{LaneState}
+use Rattle.dn_lane.specs.State.{LaneState}
 use Rattle.dn_beside.specs.Pool.{Pool, store_in}
 use Rattle.dn_reach.specs.OwnLog.{HoldsLog}
 use Rattle.dn_reach.proofs.Within.{reach_longer, spare_last}

@@ -6,7 +6,7 @@ use Rattle.dn_model.specs.declared.logs.Placed.{Placed}
 use Rattle.dn_store.specs.Cut.{IsCut}
 use Rattle.dn_reach.specs.Directory.{NamesSegments}
 use Rattle.dn_reach.specs.Staging.{MayStageAll}
-use Rattle.dn_lane2.specs.State.{LaneState}
+use Rattle.dn_lane.specs.State.{LaneState}
 use Rattle.dn_machine.specs.State.{Machine}
 
 -- Logs: what lanes have sealed, and what they are about to write behind it.

@@ -16,9 +16,9 @@ use Rattle.dn_ask.specs.declared.asks.Locate.TheVariants as locate
 use Rattle.dn_ask.specs.declared.asks.Seal.TheVariants as seal
 use Rattle.dn_pending.specs.declared.entries.Entry.{Entry}
 use Rattle.dn_known.specs.Counting.{pending_of, IsCounting}
-use Rattle.dn_lane2.specs.State.{LaneState}
-use Rattle.dn_lane2.specs.declared.modes.Mode.{Mode}
-use Rattle.dn_lane2.specs.declared.modes.Mode.TheVariants as mode
+use Rattle.dn_lane.specs.State.{LaneState}
+use Rattle.dn_lane.specs.declared.modes.Mode.{Mode}
+use Rattle.dn_lane.specs.declared.modes.Mode.TheVariants as mode
 use Rattle.dn_owners.specs.Sound.{IsHeld, Agrees}
 use Rattle.dn_learnt.specs.Heeding.{look_by}
 use Rattle.dn_lanes.specs.Calls.{key_in}

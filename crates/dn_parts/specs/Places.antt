@@ -23,12 +23,12 @@ use Rattle.dn_ask.specs.declared.asks.FindRoom.TheVariants as room
 use Rattle.dn_ask.specs.declared.asks.Locate.TheVariants as locate
 use Rattle.dn_ask.specs.declared.asks.Seal.TheVariants as seal
 use Rattle.dn_services.specs.declared.seals.Seal.{Seal}
-use Rattle.dn_lane2.specs.Asked.{call_in}
-use Rattle.dn_lane2.specs.Ends.{reply_in}
-use Rattle.dn_lane2.specs.State.{LaneState}
-use Rattle.dn_lane2.specs.declared.asked.Asked.TheVariants as asked
-use Rattle.dn_lane2.specs.declared.modes.Mode.{Mode}
-use Rattle.dn_lane2.specs.declared.modes.Mode.TheVariants as mode
+use Rattle.dn_lane.specs.Asked.{call_in}
+use Rattle.dn_lane.specs.Ends.{reply_in}
+use Rattle.dn_lane.specs.State.{LaneState}
+use Rattle.dn_lane.specs.declared.asked.Asked.TheVariants as asked
+use Rattle.dn_lane.specs.declared.modes.Mode.{Mode}
+use Rattle.dn_lane.specs.declared.modes.Mode.TheVariants as mode
 use Rattle.dn_reach.specs.Placing.{plan_for, staged_for, placed_by}
 use Rattle.dn_reach.specs.Staging.{AreFlowing}
 use Rattle.dn_receipts.specs.Sealing.{record_of}

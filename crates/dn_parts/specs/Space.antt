@@ -3,7 +3,7 @@ use Rattle.dn_word.specs.Format.{format_word}
 use Rattle.dn_word.specs.Regions.{format_at, segment_counter_at, overflow_counter_at}
 use Rattle.dn_act.specs.Words.{word_at, pool_size}
 use Rattle.dn_model.specs.Regions.{directory, IsLane}
-use Rattle.dn_lane2.specs.State.{LaneState}
+use Rattle.dn_lane.specs.State.{LaneState}
 use Rattle.dn_turns.specs.Claims.{asking}
 use Rattle.dn_machine.specs.State.{Machine}
 use Rattle.dn_machine.specs.Sound.{claiming}
@@ -30,7 +30,7 @@ Has m n q g = Names m.words n q g ⊎ Spares m n q g
 -- In a pool of so many segments:
 pub record HasSpace (segments : ℕ) (m : Machine) : Type 0 where
   pub few : segments ≤ 8192
-  pub size : length m.words ≡ pool_size segments
+  pub size : pool_size segments ≤ length m.words
   pub format : word_at m.words format_at ≡ format_word (record { segments = segments; number = 1 })
   -- each segment that a lane has is one of the pool's, and was claimed
   pub claimed : (n q g : ℕ) → Has m n q g → (g < word_at m.words segment_counter_at) × (g < segments)

@@ -356,14 +356,3 @@ impl SealPhase {
         }
     }
 }
-
-impl Sealing {
-    /// The gate word that seals a log of this length, which is below 2^24 words.
-    pub fn word(&self, len: u32) -> u64
-        requires stamp { self.now.stamp < 2 ^ 31 }
-        requires len { len < 2 ^ 24 }
-        ensures { result ≡ sealing_word self.now.stamp len }
-    {
-        sealing_word(self.stamp, len)
-    }
-}

@@ -10,9 +10,9 @@ use Rattle.dn_outcomes.specs.declared.outcomes.Outcome.{Outcome}
 use Rattle.dn_outcomes.specs.declared.outcomes.Outcome.TheVariants as outcome
 use Rattle.dn_route.specs.CallersOrder.{Told}
 use Rattle.dn_script.specs.declared.scripts.Line.{Line}
-use Rattle.dn_world2.specs.Comes.{OnDone, CountsFault, has_failed}
-use Rattle.dn_world2.specs.Happens.{Happens, CanBeSound}
-use Rattle.dn_world2.specs.State.{WorldState, world_of}
+use Rattle.dn_world.specs.Comes.{OnDone, CountsFault, has_failed}
+use Rattle.dn_world.specs.Happens.{Happens, CanBeSound}
+use Rattle.dn_world.specs.State.{WorldState, world_of}
 use Rattle.dn_hist.specs.declared.receipts.Receipt.{Receipt}
 use Rattle.dn_run.specs.Counts.{is_of_get}
 use Rattle.dn_run.specs.Happening.{happening, receipt_if, makes_call, refuses, refuses_load}

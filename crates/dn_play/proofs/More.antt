@@ -7,7 +7,7 @@ use Rattle.dn_outcomes.specs.State.{World}
 use Rattle.dn_outcomes.specs.declared.events.Event.{Event}
 use Rattle.dn_outcomes.specs.declared.outcomes.Outcome.{Outcome}
 use Rattle.dn_script.specs.declared.scripts.Line.{Line}
-use Rattle.dn_world2.specs.State.{world_of}
+use Rattle.dn_world.specs.State.{world_of}
 use Rattle.dn_run.specs.Counts.{is_of_get}
 use Rattle.dn_run.specs.Doing.{Doing, left_of}
 use Rattle.dn_run.specs.Going.{IsDoing}

@@ -12,7 +12,7 @@ use Rattle.dn_outcomes.specs.declared.outcomes.Outcome.{Outcome}
 use Rattle.dn_outcomes.specs.declared.outcomes.Outcome.TheVariants as outcome
 use Rattle.dn_outcomes.proofs.Counted.{run_counted}
 use Rattle.dn_script.specs.declared.scripts.Line.{Line}
-use Rattle.dn_world2.specs.Happens.{MayBeGiven}
+use Rattle.dn_world.specs.Happens.{MayBeGiven}
 use Rattle.dn_run.specs.Happening.{Happening}
 use Rattle.dn_run.specs.Run.{Run, happenings}
 use Rattle.dn_play.specs.At.{IsAt, is_order}

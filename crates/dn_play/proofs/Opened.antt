@@ -15,8 +15,8 @@ use Rattle.dn_script.specs.Fit.{IsLine}
 use Rattle.dn_script.specs.declared.scripts.Line.{Line}
 use Rattle.dn_waiting.specs.State.{WaitingState, call_of, nothing_waits}
 use Rattle.dn_waiting.specs.declared.calls.OpenCall.{OpenCall}
-use Rattle.dn_world2.specs.Opening.{IsOpened, adds_for, grants, grants_to, formatted}
-use Rattle.dn_world2.specs.State.{WorldState, world_of}
+use Rattle.dn_world.specs.Opening.{IsOpened, adds_for, grants, grants_to, formatted}
+use Rattle.dn_world.specs.State.{WorldState, world_of}
 use Rattle.dn_run.specs.Counts.{counts_of}
 use Rattle.dn_run.specs.Run.{run_of}
 use Rattle.dn_run.specs.Uncalled.{IsUncalled}

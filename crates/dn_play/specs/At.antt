@@ -13,9 +13,9 @@ use Rattle.dn_script.specs.declared.scripts.Line.{Line}
 use Rattle.dn_waiting.specs.State.{WaitingState, call_of}
 use Rattle.dn_waiting.specs.declared.calls.OpenCall.{OpenCall}
 use Rattle.dn_waiting.specs.declared.calls.Place.{Place}
-use Rattle.dn_world2.specs.Comes.{has_failed}
-use Rattle.dn_world2.specs.Opening.{IsOpened}
-use Rattle.dn_world2.specs.State.{world_of}
+use Rattle.dn_world.specs.Comes.{has_failed}
+use Rattle.dn_world.specs.Opening.{IsOpened}
+use Rattle.dn_world.specs.State.{world_of}
 use Rattle.dn_run.specs.Counts.{counts_of, is_of_get}
 use Rattle.dn_run.specs.Doing.{Doing, Finish, Repeat, next_of, left_of}
 use Rattle.dn_run.specs.Going.{IsGoing}
@@ -44,24 +44,10 @@ pub record IsAt (w : World) (lines : List Line) (words : List ℕ) (p : Player) 
   pub few : p.events ≤ 2 ^ 22
   pub printed : out ≡ events_text r.past
 
--- it is at some moment of a run
-pub record CanPlay (words : List ℕ) (p : Player) (out : List ℕ) : Type 0 where
-  pub start : World
-  pub lines : List Line
-  pub run : Run
-  pub at : IsAt start lines words p out run
-
 -- ---- at one at which no deed is to be loaded, and this event is next
 pub record IsNext (r : Run) (e : Event) : Type 0 where
   pub loads : loader r ≡ None
   pub next : next_of r.world r.doing ≡ Some e
-
-pub record CanDo (words : List ℕ) (p : Player) (out : List ℕ) (e : Event) : Type 0 where
-  pub start : World
-  pub lines : List Line
-  pub run : Run
-  pub at : IsAt start lines words p out run
-  pub next : IsNext run e
 
 -- ---- it has gone on with the run to a moment at which no deed is to be loaded, and this is left of the line under way
 pub record Leads (w : World) (lines : List Line) (now : List ℕ) (q : Player) (out : List ℕ) (r : Run) (d : Doing) : Type 0 where

@@ -14,7 +14,7 @@ ghost use Rattle.dn_run.specs.Run.{Run, loader, loads_deed};
 ghost use Rattle.dn_outcomes.specs.declared.events.Event.TheVariants as happens;
 ghost use Rattle.dn_outcomes.specs.Told.{is_made_by};
 ghost use Rattle.dn_run.specs.Text.{receipt_text, answer_text, step_text};
-ghost use Rattle.dn_world2.specs.Comes.{has_failed};
+ghost use Rattle.dn_world.specs.Comes.{has_failed};
 ghost use Rattle.dn_play.specs.At.{IsAt, IsCounted, CanGo, Goes, Halts, IsMoved, IsMovedBy, IsToSession, Awaits, Repeats, Finishes, Ends, event_by, doing_in, left_by, CanLoad, Stops, CountsStop, CanGive, Gives, StopsEvent, place_of, loads_by, refused_by, Undone, runs_on, Follow, Reaches, IsStarted, StopsOpening};
 ghost use Rattle.dn_play.specs.Tally.{HasRoom, added};
 
@@ -31,7 +31,7 @@ use dn_run::Counts;
 use dn_script::Line;
 use dn_waiting::Place;
 use dn_word::OutOfMemory;
-use dn_world2::{OpenFault, World};
+use dn_world::{OpenFault, World};
 use std::alloc::Global;
 
 /// The most events of a play.
@@ -102,7 +102,7 @@ impl Player {
         segments: u32,
         nodes: u8,
     ) -> Result<Player, Stop>
-        requires size { length (M.words mem.old) ≡ pool_size segments }
+        requires size { pool_size segments ≤ length (M.words mem.old) }
         requires zeros { IsZeros (M.words mem.old) }
         requires segments { segments ≤ 8192 }
         requires some { 1 ≤ nodes }

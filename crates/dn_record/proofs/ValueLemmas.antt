@@ -24,9 +24,6 @@ get_zeros zero k = refl
 get_zeros (suc n) zero = refl
 get_zeros (suc n) (suc k) = get_zeros n k
 
-pub length_zeros : (n : ℕ) → length (replicate {A = ℕ} n 0) ≡ n
-length_zeros n = grind (arith, common_steps)
-
 small_at : (v : List ℕ) → All (λ byte. byte < 2 ^ 8) v → (i : ℕ) → get_or v i 0 < 256
 small_at [] h i = omega arith
 small_at (x ∷ v) h zero = All-head (λ byte. byte < 2 ^ 8) x v h

@@ -5,11 +5,11 @@ ghost use Rattle.std.specs.List.Sorted.{IsPermutation};
 ghost use Rattle.dn_callers.specs.Callers.{receipts_of};
 ghost use Rattle.dn_hist.specs.Receipt.{IsInOrder};
 ghost use Rattle.dn_run.specs.Output.{history_text};
-ghost use Rattle.dn_world2.specs.Inside.{stands_as};
+ghost use Rattle.dn_world.specs.Inside.{stands_as};
 
 use dn_print::{history_head, history_line};
 use dn_word::{OutOfMemory, Position};
-use dn_world2::Standing;
+use dn_world::Standing;
 
 /// Puts what stands in order of position: by stamp, then rank, then session. It takes no memory.
 pub fn order(history: &mut Vec<Standing>)

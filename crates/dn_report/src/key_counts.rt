@@ -6,11 +6,11 @@ ghost use Rattle.dn_callers.specs.Callers.{receipts_of};
 ghost use Rattle.dn_hist.specs.Calls.{Bytes, map_after};
 ghost use Rattle.dn_hist.specs.Replay.{map_left};
 ghost use Rattle.dn_report.specs.Keys.{HasSameKeys};
-ghost use Rattle.dn_world2.specs.Inside.{stands_as};
+ghost use Rattle.dn_world.specs.Inside.{stands_as};
 
 use dn_hist::{Call, PlainMap};
 use dn_word::{OutOfMemory, Value};
-use dn_world2::Standing;
+use dn_world::Standing;
 use std::alloc::Global;
 
 /// A value without a byte.

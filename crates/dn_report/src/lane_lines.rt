@@ -5,12 +5,12 @@ ghost use Rattle.dn_cluster.specs.Machine.{IsMade, lane_in};
 ghost use Rattle.dn_cluster.specs.State.{numbered};
 ghost use Rattle.dn_route.specs.CallersOrder.{Told};
 ghost use Rattle.dn_run.specs.Output.{lanes_text, lane_line, state_by};
-ghost use Rattle.dn_world2.specs.Finishes.{HaveEnded, HasEnded, ended_at};
-ghost use Rattle.dn_world2.specs.State.{world_of};
+ghost use Rattle.dn_world.specs.Finishes.{HaveEnded, HasEnded, ended_at};
+ghost use Rattle.dn_world.specs.State.{world_of};
 
 use dn_print::{LaneState, lane_line};
 use dn_word::{Gate, OutOfMemory};
-use dn_world2::World;
+use dn_world::World;
 
 /// The state of a lane that was made, by whether its gate is fenced.
 fn state(world: &World, lane: u8, fenced: bool) -> LaneState

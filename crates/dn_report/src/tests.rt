@@ -5,7 +5,7 @@ use dn_act::Sound;
 use dn_hist::{Call, Receipt, Reply};
 use dn_run::Counts;
 use dn_word::{Position, Value};
-use dn_world2::{Standing, World};
+use dn_world::{Standing, World};
 use std::alloc::Global;
 use std::test::Fail;
 

@@ -3,7 +3,7 @@ use Rattle.std.specs.FinMap.{len}
 use Rattle.std.specs.List.{flat_map}
 use Rattle.dn_hist.specs.Replay.{map_left}
 use Rattle.dn_callers.specs.Callers.{Standing, receipts_of}
-use Rattle.dn_lane2.specs.State.{LaneState}
+use Rattle.dn_lane.specs.State.{LaneState}
 use Rattle.dn_model.specs.Regions.{gate, mark}
 use Rattle.dn_outcomes.specs.State.{World}
 use Rattle.dn_print.specs.CallLine.{event_text}

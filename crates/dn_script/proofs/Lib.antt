@@ -4,7 +4,6 @@ mod FieldLemmas
 pub mod LineFits
 mod LeftLemmas
 mod PartLemmas
-pub mod PlayedLemmas
 mod SaidFits
 mod ValueFits
 mod Walks

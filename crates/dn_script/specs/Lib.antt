@@ -6,7 +6,6 @@ pub mod Found
 pub mod LineFault
 pub mod Meaning
 pub mod Number
-pub mod Played
 pub mod Said
 pub mod Script
 pub mod Sentence

@@ -97,4 +97,6 @@ line_count bytes = count_by (λ b. nat_eq b 10) bytes + (if is_whole bytes then 
 
 -- what is played so far
 abbrev pub played : List Verb
-played = verb.Get ∷ verb.Put ∷ []
+played =
+    verb.Pool ∷ verb.Nodes ∷ verb.Get ∷ verb.Put ∷ verb.Delete ∷ verb.Lane ∷ verb.Sessions ∷ verb.Start ∷ verb.Step ∷ verb.Flow
+    ∷ verb.Merge ∷ verb.Add ∷ verb.Tell ∷ []

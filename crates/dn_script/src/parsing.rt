@@ -1,7 +1,6 @@
 ghost use Rattle.std.specs.Prelude.{◌≡◌, ◌<◌, ◌≤◌, ◌+◌, ◌-◌, ◌^◌, ℕ, Ok, Some, IfOk, IfErr, All, min, nat_eq, nat_lt, length, count_by, slice_index};
 ghost use Rattle.std.specs.List.{slice_split};
-ghost use Rattle.dn_script.specs.Fit.{IsLine, IsScript};
-ghost use Rattle.dn_script.specs.Played.{IsPlayed};
+ghost use Rattle.dn_script.specs.Fit.{IsScript};
 ghost use Rattle.dn_script.specs.Script.{script_of, played, draft_in, with_meaning, rules_of, is_whole, line_count};
 ghost use Rattle.dn_script.specs.Sentence.{line_meaning};
 ghost use Rattle.dn_script.specs.Fault.{IsParseFault, IsDraftFault, Adds, draft_of, fault_at};
@@ -38,18 +37,11 @@ pub(crate) struct Draft {
 
 /// The script that these bytes are, of the lines that are played so far, for a pool of so many segments:
 /// [`parse_with`] with [`PLAYED`].
-///
-/// So far each line is a get or a put of the first session, and the script takes the lesser of 1,024 segments and the
-/// pool's.
 pub fn parse(alloc: Global, bytes: &[u8], mode: Mode, segments: u32) -> Result<Script, ParseFault>
     ensures script { IfOk result
         (λ script. script_of played mode segments bytes.now ≡ Ok script) }
     ensures count { IfOk result (λ script. line_count bytes.now ≤ 1000000) }
-    ensures fit { IfOk result (λ script. All IsLine script.lines) }
-    ensures few { IfOk result (λ script. length script.lines ≤ length bytes.now) }
-    ensures calls { IfOk result (λ script. All IsPlayed script.lines) }
-    ensures segments { IfOk result (λ script. script.segments ≡ min 1024 segments) }
-    ensures header { IfOk result (λ script. (script.nodes ≡ 1) × (script.units ≡ 4096)) }
+    ensures fits { IfOk result (λ script. IsScript segments (length bytes.now) script) }
     ensures bad { IfErr result (IsParseFault played mode segments bytes.now) }
 {
     parse_with(alloc, bytes, mode, segments, &PLAYED)

@@ -247,15 +247,16 @@ fn each_cause(rt: HostRuntime) -> Result<(), Fail> {
 #[test]
 fn what_is_played(rt: HostRuntime) -> Result<(), Fail> {
     for (text, found) in [
-        ("c1 put 5 %6162\n;\n\nc1 get 5\n", None),
-        ("pool 5\n", Some((1, Cause::Verb))),
-        ("c1 del 5\n", Some((1, Cause::Verb))),
-        ("c1 @2\n", Some((1, Cause::Verb))),
-        ("c1 start\n", Some((1, Cause::Verb))),
-        ("start\n", Some((1, Cause::Verb))),
-        ("c1\n", Some((1, Cause::Count))),
-        ("c2 get 0\n", Some((1, Cause::Session))),
-        ("c1 get 0\n", Some((1, Cause::Key))),
+        (
+            "pool 5\nnodes 2\nc1 put 5 %6162\n;\n\nc1000 @2 start del 5\n",
+            None,
+        ),
+        ("step 1 2\nflow 1 0\nmerge 2\nadd\ntell 1 2\n", None),
+        ("cache 5\n", Some((1, Cause::Verb))),
+        ("monitor\n", Some((1, Cause::Verb))),
+        ("start move 5 1\n", Some((1, Cause::Verb))),
+        ("mix 1 2\n", Some((1, Cause::Verb))),
+        ("c1001 get 5\n", Some((1, Cause::Session))),
     ] {
         let text = text.as_bytes();
         assert_eq!(rt; bad(rt.alloc(), text, Mode::Play, &PLAYED), found);

@@ -36,7 +36,21 @@ pub enum Verb {
 }
 
 /// What is played so far.
-pub const PLAYED: [Verb; 2] = [Verb::Get, Verb::Put];
+pub const PLAYED: [Verb; 13] = [
+    Verb::Pool,
+    Verb::Nodes,
+    Verb::Get,
+    Verb::Put,
+    Verb::Delete,
+    Verb::Lane,
+    Verb::Sessions,
+    Verb::Start,
+    Verb::Step,
+    Verb::Flow,
+    Verb::Merge,
+    Verb::Add,
+    Verb::Tell,
+];
 
 impl Verb {
     /// Its word in a script. Of lanes and sessions it is the byte in front of the number.

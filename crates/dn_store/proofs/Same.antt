@@ -18,7 +18,7 @@ same_chains words chains others s t h g home lt = chain_one words home (chains h
 
 pub same_store : (words : List ℕ) (chains others : ℕ → List ℕ) (s t : StoreState) → Represents words chains s → Represents words others t → IsSameStore s t
 same_store words chains others s t h g = record {
-  pool = omega (arith, h.table.size, g.table.size);
+  pool = omega (arith, h.table.format, g.table.format);
   logs = λ n. elim (lane_or_not n) [
     | inl l ↦ one_log words n (s.logs n) (t.logs n) (h.reads.logs_are n l) (g.reads.logs_are n l)
     | inr l ↦ h.reads.no_more n l ∙ sym (g.reads.no_more n l)

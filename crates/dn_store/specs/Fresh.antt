@@ -21,7 +21,7 @@ granted owner = if nat_eq owner 0 then 0 else first_deed owner
 pub record IsFreshPool (words : List ℕ) (pool lanes : ℕ) (owners : ℕ → ℕ) : Type 0 where
   pub some : 1 ≤ lanes
   pub few : lanes ≤ 63
-  pub size : length words ≡ pool_size pool
+  pub size : pool_size pool ≤ length words
   pub format : word_at words format_at ≡ format_word (record { segments = pool; number = 1 })
   pub known : (t : ℕ) → t < 64 → owners t ≤ lanes
   pub deeds : (t : ℕ) → t < 64 → word_at words (deed_at t) ≡ granted (owners t)

@@ -1,4 +1,4 @@
-use Rattle.std.specs.Prelude.{◌≡◌, ◌<◌, ℕ, List, length}
+use Rattle.std.specs.Prelude.{◌≡◌, ◌<◌, ◌≤◌, ℕ, List, length}
 use Rattle.dn_word.specs.Format.{format_word}
 use Rattle.dn_word.specs.Regions.{format_at, segment_counter_at, cell_counter_at, overflow_counter_at, cell_key_at}
 use Rattle.dn_act.specs.Words.{word_at, pool_size}
@@ -14,7 +14,7 @@ use Rattle.dn_store.specs.Overflow.{IsOverflow}
 
 -- The words that say one thing each: the format, the counters, and the words of lanes, slots and cells.
 pub record IsTable (words : List ℕ) (s : StoreState) : Type 0 where
-  pub size : length words ≡ pool_size s.pool
+  pub size : pool_size s.pool ≤ length words
   pub format : word_at words format_at ≡ format_word (record { segments = s.pool; number = 1 })
   pub segment_count : word_at words segment_counter_at ≡ s.segment_count
   pub cell_count : word_at words cell_counter_at ≡ s.cell_count

@@ -5,7 +5,7 @@ use Rattle.dn_callers.specs.Callers.{Standing, receipts_of}
 use Rattle.dn_drain.specs.Acted.{LeavesActors}
 use Rattle.dn_hist.specs.Receipt.{IsInOrder}
 use Rattle.dn_hist.specs.Replay.{map_left}
-use Rattle.dn_lane2.specs.State.{LaneState}
+use Rattle.dn_lane.specs.State.{LaneState}
 use Rattle.dn_model.specs.PoolMap.{HoldsMap}
 use Rattle.dn_model.specs.Regions.{gate, mark}
 use Rattle.dn_outcomes.specs.Runs.{after}
@@ -25,8 +25,8 @@ use Rattle.dn_route.specs.CallersOrder.{Told}
 use Rattle.dn_waiting.specs.Stops.{waiting_from}
 use Rattle.dn_script.specs.declared.scripts.Line.{Line}
 use Rattle.dn_word.specs.Gate.{gate_of}
-use Rattle.dn_world2.specs.Finishes.{Finishes, HaveEnded}
-use Rattle.dn_world2.specs.State.{WorldState, world_of}
+use Rattle.dn_world.specs.Finishes.{Finishes, HaveEnded}
+use Rattle.dn_world.specs.State.{WorldState, world_of}
 use Rattle.dn_drain.specs.declared.drains.Merged.{Merged}
 use Rattle.dn_whole.specs.Close.{AreMerged, IsDone, IsDrained, Leaves, Reports}
 

@@ -10,7 +10,7 @@ use Rattle.dn_run.proofs.Heads.{heads}
 use Rattle.dn_script.specs.Fit.{IsLine}
 use Rattle.dn_script.specs.declared.scripts.Line.{Line}
 use Rattle.dn_script.specs.declared.scripts.Script.{Script}
-use Rattle.dn_world2.specs.State.{world_of}
+use Rattle.dn_world.specs.State.{world_of}
 use Rattle.dn_whole.specs.Close.{Closes, StopsClose, Ends, Stops}
 use Rattle.dn_whole.specs.Whole.{IsMoment, IsShort, IsLong, Plays, StopsPlay}
 use Rattle.dn_whole.specs.declared.ends.End.{End}

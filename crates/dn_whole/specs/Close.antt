@@ -21,8 +21,8 @@ use Rattle.dn_run.specs.Output.{output_of, all_events_text, history_text, lanes_
 use Rattle.dn_run.specs.Run.{Run}
 use Rattle.dn_run.specs.declared.counts.Counts.{Counts}
 use Rattle.dn_script.specs.declared.scripts.Line.{Line}
-use Rattle.dn_world2.specs.Finishes.{AreMerges}
-use Rattle.dn_world2.specs.State.{WorldState, world_of}
+use Rattle.dn_world.specs.Finishes.{AreMerges}
+use Rattle.dn_world.specs.State.{WorldState, world_of}
 use Rattle.dn_whole.specs.declared.ends.End.{End}
 use Rattle.dn_whole.specs.declared.ends.End.TheVariants.{Done, Long, IndexFull}
 

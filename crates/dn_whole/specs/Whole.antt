@@ -9,8 +9,8 @@ use Rattle.dn_run.specs.Output.{output_of, all_events_text}
 use Rattle.dn_run.specs.Run.{Run, IsOver, run_of, after_steps}
 use Rattle.dn_run.specs.Text.{events_text}
 use Rattle.dn_script.specs.declared.scripts.Script.{Script}
-use Rattle.dn_world2.specs.Opening.{IsOpened}
-use Rattle.dn_world2.specs.State.{WorldState, world_of}
+use Rattle.dn_world.specs.Opening.{IsOpened}
+use Rattle.dn_world.specs.State.{WorldState, world_of}
 use Rattle.dn_whole.specs.Close.{IsDrained, AreMerged, Leaves}
 use Rattle.dn_whole.specs.declared.ends.End.{End}
 use Rattle.dn_whole.specs.declared.ends.End.TheVariants.{Done, Long, IndexFull}

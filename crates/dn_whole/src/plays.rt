@@ -4,7 +4,7 @@ ghost use Rattle.std.specs.Prelude.{◌≡◌, ◌≤◌, ℕ, List, All, [], le
 ghost use Rattle.dn_act.specs.Words.{IsZeros, pool_size};
 ghost use Rattle.dn_route.specs.CallersOrder.{Told};
 ghost use Rattle.dn_script.specs.Fit.{IsLine};
-ghost use Rattle.dn_world2.specs.Finishes.{HaveEnded};
+ghost use Rattle.dn_world.specs.Finishes.{HaveEnded};
 ghost use Rattle.dn_play.specs.At.{CanGo, Follow, CountsStop};
 ghost use Rattle.dn_whole.specs.Close.{Reports, Closes, StopsClose};
 ghost use Rattle.dn_whole.specs.Whole.{Plays, StopsPlay};
@@ -16,7 +16,7 @@ use dn_report::{counted, history_lines, keys_left, lanes, order, unanswered};
 use dn_run::Counts;
 use dn_script::Script;
 use dn_word::OutOfMemory;
-use dn_world2::{FinishFault, World};
+use dn_world::{FinishFault, World};
 use std::alloc::Global;
 
 /// Prints what follows the calls without an answer, of which there are so many: the history, the lanes of a world that was
@@ -90,7 +90,7 @@ pub fn play<M: Memory>(
     script: Script,
     out: &mut Vec<u8>,
 ) -> Result<End, Stop>
-    requires size { length (M.words mem.old) ≡ pool_size script.segments }
+    requires size { pool_size script.segments ≤ length (M.words mem.old) }
     requires zeros { IsZeros (M.words mem.old) }
     requires segments { script.segments ≤ 8192 }
     requires some { 1 ≤ script.nodes }

@@ -1,13 +1,19 @@
-mod CallLemmas
-mod CountLemmas
-mod CourseLemmas
-mod FinishLemmas
-mod KeyLemmas
-mod OneOrder
-mod OpenLemmas
-mod OutputLaw
-pub mod ResultLemmas
-pub mod RunLemmas
-mod SameRuns
-pub mod StopLemmas
-mod ToldLemmas
+pub mod Changes
+pub mod Going
+pub mod Starting
+pub mod Routing
+pub mod Refreshing
+pub mod LaneActs
+pub mod TakingUp
+pub mod Stepping
+pub mod Others
+pub mod Giving
+pub mod Events
+pub mod Finishing
+pub mod History
+pub mod Playing
+pub mod Dropping
+pub mod Granting
+pub mod Adding
+pub mod Opened
+pub mod Whole

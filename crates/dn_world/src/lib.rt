@@ -1,14 +1,19 @@
-//! What a play keeps: its lane, its session, its history and its counts; and what its calls and its end print.
+//! A world: a cluster, the calls and tasks that wait, and the receipts that stand. It is given events, one at a time, and
+//! tells what came of each.
+//!
+//! What an event does is `does` of `dn_outcomes`, a function of the words of the pool and of all who act on them. The
+//! words are handed to each call.
 #![tactic(auto)]
 
-mod counts;
-mod histories;
-pub mod laws;
-mod stops;
+mod crews;
+mod finishes;
+mod leaving;
+mod open_faults;
+mod routes;
 #[cfg(test)]
 mod tests;
-mod world;
+mod worlds;
 
-pub use counts::Counts;
-pub use stops::Stop;
-pub use world::World;
+pub use finishes::FinishFault;
+pub use open_faults::OpenFault;
+pub use worlds::{Standing, World};

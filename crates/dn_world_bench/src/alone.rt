@@ -9,11 +9,11 @@ use crate::plays::{LANES, SEGMENTS};
 use crate::tallies::Tally;
 use dn_act::{Action, Memory, Sound, exec};
 use dn_hist::{Call, Receipt, SessionView};
-use dn_lane2::{Answer, Lane, Turn};
+use dn_lane::{Answer, Lane, Turn};
 use dn_merge::Merger;
 use dn_word::regions::deed_at;
 use dn_word::{Deed, MAX_STAMP, Position, slot_of};
-use dn_world2::World;
+use dn_world::World;
 use std::alloc::Global;
 
 /// How many sessions make calls.

@@ -2,12 +2,12 @@
 
 ghost use Rattle.std.specs.Prelude.{IsTrue};
 ghost use Rattle.dn_callers.specs.Sessions.{IsSession};
-ghost use Rattle.dn_world2.specs.Happens.{HasNumber, MayBeGiven};
+ghost use Rattle.dn_world.specs.Happens.{HasNumber, MayBeGiven};
 
 use dn_act::Sound;
 use dn_outcomes::{Event, Outcome};
 use dn_word::OutOfMemory;
-use dn_world2::{Standing, World};
+use dn_world::{Standing, World};
 use std::alloc::Global;
 use std::marker::Model;
 
@@ -25,8 +25,8 @@ pub struct Play {
 }
 
 impl Model for Play {
-    ghost use Rattle.dn_world2.specs.Happens.{CanBeSound};
-    ghost use Rattle.dn_world2.specs.State.{WorldState};
+    ghost use Rattle.dn_world.specs.Happens.{CanBeSound};
+    ghost use Rattle.dn_world.specs.State.{WorldState};
 
     ghost Value = { WorldState };
 

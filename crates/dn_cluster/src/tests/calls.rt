@@ -5,7 +5,7 @@ use super::SEGMENTS;
 use super::plays::{Play, is_session};
 use crate::{Acted, Actor, AddFault};
 use dn_hist::{Call, Receipt, Reply};
-use dn_lane2::{Answer, Refuse, Turn};
+use dn_lane::{Answer, Refuse, Turn};
 use dn_merge::MergeTurn;
 use dn_monitor::{MonitorAnswer, MonitorTurn};
 use dn_tend::TaskAnswer;

@@ -8,7 +8,7 @@ ghost use Rattle.dn_callers.specs.Sessions.{IsSession};
 ghost use Rattle.dn_lanes.specs.Calls.{IsCall};
 ghost use Rattle.dn_monitor.specs.Monitor.{IsOrder};
 ghost use Rattle.dn_record.specs.Grammar.{IsValue};
-ghost use Rattle.dn_lane2.specs.State.{LaneState};
+ghost use Rattle.dn_lane.specs.State.{LaneState};
 ghost use Rattle.dn_machine.specs.Given.{HasNoCall, IsOfSession};
 ghost use Rattle.dn_cluster.specs.State.{numbered};
 ghost use Rattle.dn_cluster.specs.Acting.{failed};
@@ -17,7 +17,7 @@ ghost use Rattle.dn_cluster.specs.Machine.{machine_of, lane_in, IsMade, Runs, Is
 use super::pools::Pool;
 use crate::{Acted, Actor, AddFault, Cluster};
 use dn_hist::{Call, Receipt};
-use dn_lane2::Refuse;
+use dn_lane::Refuse;
 use dn_monitor::{MonitorAnswer, MonitorTurn, Order};
 use dn_tend::Task;
 use dn_word::Position;

@@ -7,7 +7,7 @@ use super::plays::Play;
 use super::{KEYS, SEGMENTS, SLOTS};
 use crate::{Acted, Actor};
 use dn_hist::Call;
-use dn_lane2::{Answer, Turn};
+use dn_lane::{Answer, Turn};
 use dn_merge::MergeTurn;
 use dn_tend::TaskAnswer;
 use dn_word::{Value, slot_of};

@@ -3,7 +3,7 @@ use Rattle.std.specs.List.{flat_map}
 use Rattle.dn_callers.specs.Callers.{Standing as Stands}
 use Rattle.dn_print.specs.HistoryLine.{history_line_text}
 use Rattle.dn_run.specs.Output.{history_text}
-use Rattle.dn_world2.specs.Inside.{stands_as}
+use Rattle.dn_world.specs.Inside.{stands_as}
 use Rattle.dn_report.proofs.histories.history_lines.Given as goal
 
 -- what is printed, and the lines that are left, are the whole history

@@ -3,8 +3,8 @@ use Rattle.std.proofs.lemmas.List.Sorted.{IsPermutation-map, answers_always}
 use Rattle.dn_callers.specs.Callers.{Standing as Stands}
 use Rattle.dn_hist.specs.Receipt.{position_cmp}
 use Rattle.dn_hist.specs.declared.receipts.Receipt.{Receipt}
-use Rattle.dn_world2.specs.Inside.{stands_as}
-use Rattle.dn_world2.specs.declared.worlds.Standing.{Standing}
+use Rattle.dn_world.specs.Inside.{stands_as}
+use Rattle.dn_world.specs.declared.worlds.Standing.{Standing}
 use Rattle.dn_report.proofs.OrderLemmas.{sorted_map}
 use Rattle.dn_report.proofs.histories.order.Goals as goal
 

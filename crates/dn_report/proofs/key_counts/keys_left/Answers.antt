@@ -4,9 +4,9 @@ use Rattle.std.specs.FinMap.{empty}
 use Rattle.dn_callers.specs.Callers.{receipts_of}
 use Rattle.dn_hist.specs.Calls.{Bytes, map_after}
 use Rattle.dn_hist.specs.Replay.{map_from}
-use Rattle.dn_world2.specs.Inside.{stands_as}
+use Rattle.dn_world.specs.Inside.{stands_as}
 use Rattle.dn_report.specs.Keys.{HasSameKeys}
-use Rattle.dn_world2.specs.declared.worlds.Standing.{Standing}
+use Rattle.dn_world.specs.declared.worlds.Standing.{Standing}
 use Rattle.dn_report.proofs.KeyLemmas.{same_empty}
 use Rattle.dn_report.proofs.key_counts.keys_left.Goals as goal
 

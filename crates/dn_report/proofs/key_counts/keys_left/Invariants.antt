@@ -2,7 +2,7 @@ use Rattle.std.proofs.Common.{◌≡◌, drop, map}
 use Rattle.dn_callers.specs.Callers.{receipts_of}
 use Rattle.dn_hist.specs.Calls.{Bytes}
 use Rattle.dn_hist.specs.Replay.{map_from, map_left}
-use Rattle.dn_world2.specs.Inside.{stands_as}
+use Rattle.dn_world.specs.Inside.{stands_as}
 use Rattle.dn_report.specs.Keys.{HasSameKeys}
 use Rattle.dn_report.proofs.key_counts.keys_left.Given as goal
 

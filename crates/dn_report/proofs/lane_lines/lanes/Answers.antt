@@ -1,6 +1,6 @@
 use Rattle.std.proofs.Common.{◌≡◌, ◌+◌, ap, length, ◌∙◌, arith}
 use Rattle.dn_cluster.specs.State.{ClusterState}
-use Rattle.dn_world2.specs.State.{world_of}
+use Rattle.dn_world.specs.State.{world_of}
 use Rattle.dn_report.proofs.LaneLemmas.{one_more}
 use Rattle.dn_report.proofs.lane_lines.lanes.Goals as goal
 

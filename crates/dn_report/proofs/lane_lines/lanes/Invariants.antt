@@ -1,8 +1,8 @@
 use Rattle.std.proofs.Common.{◌≡◌, ◌++◌, ℕ, List, length}
 use Rattle.dn_route.specs.CallersOrder.{Told}
 use Rattle.dn_run.specs.Output.{lanes_text}
-use Rattle.dn_world2.specs.Finishes.{HaveEnded}
-use Rattle.dn_world2.specs.State.{world_of}
+use Rattle.dn_world.specs.Finishes.{HaveEnded}
+use Rattle.dn_world.specs.State.{world_of}
 use Rattle.dn_report.proofs.lane_lines.lanes.Given as goal
 
 -- the lines of so many lanes are printed

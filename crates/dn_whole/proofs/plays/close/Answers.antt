@@ -1,6 +1,6 @@
 use Rattle.std.proofs.Common.{ℕ, List, length, refl, sym, subst, ap, ◌∙◌}
-use Rattle.dn_world2.specs.Finishes.{HaveEnded, IsFinishFault}
-use Rattle.dn_world2.specs.declared.finishes.FinishFault.{FinishFault}
+use Rattle.dn_world.specs.Finishes.{HaveEnded, IsFinishFault}
+use Rattle.dn_world.specs.declared.finishes.FinishFault.{FinishFault}
 use Rattle.dn_play.specs.declared.players.Player.{Player}
 use Rattle.dn_whole.proofs.Closing.{drained_of, events_printed, leaves_now, leaves_drained, done_of}
 use Rattle.dn_whole.proofs.plays.close.Goals as goal

@@ -2,9 +2,9 @@ use Rattle.std.proofs.Common.{ℕ, List, ◌++◌, length, map, subst, ap, ◌�
 use Rattle.std.specs.List.Sorted.{IsPermutation}
 use Rattle.dn_callers.specs.Callers.{Standing}
 use Rattle.dn_run.specs.Output.{history_text, lanes_text}
-use Rattle.dn_world2.specs.Inside.{stands_as}
-use Rattle.dn_world2.specs.State.{WorldState, world_of}
-use Rattle.dn_world2.specs.declared.worlds.Standing.{Standing as Held}
+use Rattle.dn_world.specs.Inside.{stands_as}
+use Rattle.dn_world.specs.State.{WorldState, world_of}
+use Rattle.dn_world.specs.declared.worlds.Standing.{Standing as Held}
 use Rattle.dn_whole.specs.Close.{Reports}
 use Rattle.dn_whole.proofs.Closing.{keys, on_done, reports_of}
 use Rattle.dn_whole.proofs.plays.summary.Goals as goal

@@ -3,12 +3,12 @@ use Rattle.std.proofs.lemmas.Option.{none-some, same_Some}
 use Rattle.dn_act.specs.declared.actions.Action.{Action}
 use Rattle.dn_cluster.specs.State.{ClusterState}
 use Rattle.dn_cluster.specs.Inside.{state_of, IsNode}
-use Rattle.dn_lane2.specs.Next.{next_of}
-use Rattle.dn_lane2.specs.State.{LaneState}
-use Rattle.dn_lane2.specs.Turns.{turn_of}
-use Rattle.dn_lane2.specs.declared.answers.Answer.TheVariants.{NotOwner}
-use Rattle.dn_lane2.specs.declared.answers.Turn.{Turn}
-use Rattle.dn_lane2.specs.declared.answers.Turn.TheVariants.{Done}
+use Rattle.dn_lane.specs.Next.{next_of}
+use Rattle.dn_lane.specs.State.{LaneState}
+use Rattle.dn_lane.specs.Turns.{turn_of}
+use Rattle.dn_lane.specs.declared.answers.Answer.TheVariants.{NotOwner}
+use Rattle.dn_lane.specs.declared.answers.Turn.{Turn}
+use Rattle.dn_lane.specs.declared.answers.Turn.TheVariants.{Done}
 use Rattle.dn_cluster.specs.Acting.{is_nothing, lane_answer, lane_found, IsNoOwner}
 use Rattle.dn_cluster.specs.Asks.{RunsAt, TakesAt}
 use Rattle.dn_cluster.specs.Changed.{made_at}

@@ -1,6 +1,6 @@
 use Rattle.std.proofs.Common.{ℕ, ◌≡◌, ◌<◌, ◌+◌, ◌++◌, ◌∷◌, [], List, false, length, refl, sym, ◌∙◌, ap, subst, arith}
 use Rattle.dn_merge.specs.Merge.{Merging, started}
-use Rattle.dn_lane2.specs.State.{LaneState, fresh}
+use Rattle.dn_lane.specs.State.{LaneState, fresh}
 use Rattle.dn_machine.specs.Events.{Adds}
 use Rattle.dn_cluster.specs.State.{ClusterState}
 use Rattle.dn_cluster.specs.Inside.{state_of, IsCluster}

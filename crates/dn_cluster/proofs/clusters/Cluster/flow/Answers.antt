@@ -2,7 +2,7 @@ use Rattle.std.proofs.Common.{length, ◌≡◌, Option, Some, None, refl, sym, 
 use Rattle.std.proofs.lemmas.List.{length-set}
 use Rattle.std.proofs.lemmas.Option.{slice_get_within}
 use Rattle.dn_log.specs.Staged.{flow_of}
-use Rattle.dn_lane2.specs.State.{LaneState}
+use Rattle.dn_lane.specs.State.{LaneState}
 use Rattle.dn_cluster.specs.State.{ClusterState}
 use Rattle.dn_cluster.specs.Acting.{is_nothing, flow_answer, flow_found}
 use Rattle.dn_cluster.specs.Asks.{RunsAt}

@@ -1,7 +1,7 @@
 use Rattle.std.proofs.Common.{ℕ, ◌-◌, Option, IfErr, sym, ◌∙◌, ap, subst, arith}
 use Rattle.std.proofs.lemmas.Result.{on_ok_weaker}
-use Rattle.dn_lane2.specs.State.{LaneState}
-use Rattle.dn_lane2.specs.declared.answers.Refuse.{Refuse}
+use Rattle.dn_lane.specs.State.{LaneState}
+use Rattle.dn_lane.specs.declared.answers.Refuse.{Refuse}
 use Rattle.dn_cluster.specs.State.{ClusterState}
 use Rattle.dn_cluster.specs.Machine.{IsMade, Runs}
 use Rattle.dn_cluster.specs.Inside.{state_of, IsNode}
@@ -9,7 +9,7 @@ use Rattle.dn_cluster.specs.Asks.{RunsAt, refused_in, refused_by}
 use Rattle.dn_cluster.specs.Changed.{with_node}
 use Rattle.dn_cluster.proofs.Kept.{node_kept, node_begun}
 use Rattle.dn_cluster.proofs.Places.{HasNode, read_node, read_running, runs_is, made_by}
-use Rattle.dn_lane2.specs.Refused.{Refuses}
+use Rattle.dn_lane.specs.Refused.{Refuses}
 use Rattle.dn_machine.specs.Events.{Asks}
 use Rattle.dn_cluster.proofs.Giving.{from, asks_so}
 use Rattle.dn_cluster.proofs.clusters.Cluster.give_call.Goals as goal

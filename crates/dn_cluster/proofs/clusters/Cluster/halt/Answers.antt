@@ -1,7 +1,7 @@
 use Rattle.std.proofs.Common.{◌≡◌, ◌<◌, length, slice_get, true, Some, sym, ◌∙◌, ap, subst}
 use Rattle.std.proofs.lemmas.Option.{same_Some}
-use Rattle.dn_lane2.specs.State.{LaneState}
-use Rattle.dn_lane2.specs.Turns.{ending_of}
+use Rattle.dn_lane.specs.State.{LaneState}
+use Rattle.dn_lane.specs.Turns.{ending_of}
 use Rattle.dn_cluster.specs.State.{ClusterState}
 use Rattle.dn_cluster.specs.Changed.{with_node}
 use Rattle.dn_cluster.specs.Inside.{state_of, IsNode}

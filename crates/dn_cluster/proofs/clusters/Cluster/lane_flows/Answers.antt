@@ -4,7 +4,7 @@ use Rattle.dn_cluster.specs.State.{ClusterState}
 use Rattle.dn_cluster.specs.Changed.{with_node}
 use Rattle.dn_cluster.specs.Inside.{state_of, IsNode}
 use Rattle.dn_cluster.specs.declared.nodes.Node.{Node}
-use Rattle.dn_lane2.specs.State.{LaneState}
+use Rattle.dn_lane.specs.State.{LaneState}
 use Rattle.dn_cluster.proofs.Kept.{node_kept}
 use Rattle.dn_cluster.proofs.OtherEvents.{flowed_node}
 use Rattle.dn_cluster.proofs.Places.{seen_node}

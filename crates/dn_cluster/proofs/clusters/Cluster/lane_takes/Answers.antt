@@ -1,5 +1,5 @@
 use Rattle.std.proofs.Common.{Some, None, slice_get, refl, sym, ◌∙◌, ap, subst}
-use Rattle.dn_lane2.specs.CallCauses.{CallCause}
+use Rattle.dn_lane.specs.CallCauses.{CallCause}
 use Rattle.dn_cluster.specs.State.{ClusterState}
 use Rattle.dn_cluster.specs.Asks.{TakesAt}
 use Rattle.dn_cluster.specs.Changed.{with_node, made_at, answered_in}

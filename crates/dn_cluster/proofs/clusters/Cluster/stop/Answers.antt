@@ -1,6 +1,6 @@
 use Rattle.std.proofs.Common.{length, ℕ, ◌≡◌, ◌<◌, ◌≤◌, slice_get, refl, sym, ◌∙◌, ap, arith}
 use Rattle.std.proofs.lemmas.List.{length-set}
-use Rattle.dn_lane2.specs.Asked.{view_in}
+use Rattle.dn_lane.specs.Asked.{view_in}
 use Rattle.dn_cluster.specs.State.{ClusterState}
 use Rattle.dn_cluster.specs.Asks.{RunsAt}
 use Rattle.dn_cluster.specs.Changed.{with_node, with_client}

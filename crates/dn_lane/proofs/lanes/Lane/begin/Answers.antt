@@ -1,8 +1,12 @@
-use Rattle.std.proofs.Common.{rules, subst}
-use Rattle.dn_lane.specs.Fit.{IsLane}
-use Rattle.dn_lane.proofs.CallLaws.{begins_run}
+use Rattle.std.proofs.Common.{rules, ◌≡◌, subst}
+use Rattle.dn_lane.specs.Fit.{FitsMode}
+use Rattle.dn_lane.specs.State.{LaneState}
+use Rattle.dn_lane.proofs.BeginLaws.{idle_waits, begun_run}
 use Rattle.dn_lane.proofs.lanes.Lane.begin.Goals as goal
 
 pub returns-clause-sequence : goal.returns-clause-sequence
 returns-clause-sequence c =
-    begins_run c.args.self.now _ c.args.session.now c.args.call.now (subst IsLane c.self.view_is c.self.invariant.lane) (search rules) (search rules)
+    begun_run c.args.self.now _ c.args.session.now c.args.call.now
+    (idle_waits c.args.self.now (subst (λ (l : LaneState). FitsMode l.base l.asked l.mode) c.self.view_is c.self.invariant.fits) (search rules))
+    (subst (λ (l : LaneState). l.base.fetch.segments ≡ l.base.known.log.pool) c.self.view_is c.self.invariant.pool)
+    (search rules)

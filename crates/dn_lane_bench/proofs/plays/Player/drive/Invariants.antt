@@ -1,6 +1,6 @@
 use Rattle.std.proofs.Common.{◌≤◌, length}
 use Rattle.dn_act.specs.Words.{pool_size}
-use Rattle.dn_lane2.specs.Left.{mode_left}
+use Rattle.dn_lane.specs.Left.{mode_left}
 use Rattle.dn_lane_bench.proofs.plays.Player.drive.Given as goal
 
 -- the lane's actions stay in the pool

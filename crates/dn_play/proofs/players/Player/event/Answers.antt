@@ -1,5 +1,5 @@
 use Rattle.std.proofs.Common.{ℕ, List, sym, subst, ◌∙◌, arith}
-use Rattle.dn_world2.specs.State.{WorldState}
+use Rattle.dn_world.specs.State.{WorldState}
 use Rattle.dn_run.specs.declared.counts.Counts.{Counts}
 use Rattle.dn_play.specs.At.{StopsEvent}
 use Rattle.dn_play.specs.Tally.{HasRoom}

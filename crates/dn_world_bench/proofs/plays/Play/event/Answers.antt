@@ -1,4 +1,4 @@
-use Rattle.dn_world2.proofs.Playing.{played}
+use Rattle.dn_world.proofs.Playing.{played}
 use Rattle.dn_world_bench.proofs.plays.Play.event.Goals as goal
 
 -- an event keeps a world that can be sound, and want of memory leaves it
