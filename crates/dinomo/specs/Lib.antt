@@ -1,5 +1,5 @@
 pub mod Command
-pub mod Headline
+pub mod Ending
 pub mod Plays
 pub mod Pool
 pub mod Verdict

@@ -1,4 +1,4 @@
-use Rattle.std.specs.Prelude.{◌≡◌, ℕ, ◌-◌, ◌/◌, ◌≤◌, min}
+use Rattle.std.specs.Prelude.{◌≡◌, ℕ, ◌-◌, ◌/◌, ◌≤◌}
 use Rattle.dn_word.specs.Regions.{segments_at}
 use Rattle.dn_act.specs.Words.{pool_size}
 
@@ -12,7 +12,3 @@ pub record IsPoolSize (size : ℕ) : Type 0 where
 -- the segments of a pool of this size
 abbrev pub pool_segments : ℕ → ℕ
 pool_segments size = (size - segments_at) / 1024
-
--- the segments in which a script plays, in a pool of this size: the pool's, up to 1,024
-abbrev pub segments_of : ℕ → ℕ
-segments_of size = min 1024 (pool_segments size)

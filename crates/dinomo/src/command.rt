@@ -7,8 +7,8 @@ ghost use Rattle.dn_io.specs.Whole.{WroteFront};
 ghost use Rattle.dn_print.specs.RefusalLine.{bad_words_text};
 ghost use Rattle.dinomo.specs.Pool.{IsPoolSize};
 ghost use Rattle.dinomo.specs.Command.{IsPlay, RefusesWords};
+ghost use Rattle.dinomo.specs.Ending.{Writes};
 ghost use Rattle.dinomo.specs.Plays.{Plays};
-ghost use Rattle.dinomo.specs.Verdict.{Writes};
 
 use crate::playing::{play, write_out};
 use dn_act::Memory;

@@ -3,6 +3,7 @@
 
 mod command;
 mod playing;
+mod reading;
 mod setting;
 #[cfg(test)]
 mod tests;

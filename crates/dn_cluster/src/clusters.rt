@@ -229,6 +229,7 @@ impl Cluster {
     /// `Fault` comes exactly where the access failed. Then the cluster is as it was, and the action was done or not done. So
     /// nobody may act next before that lane is stopped, that merger renewed or that order dropped; a session's load leaves
     /// the words, and is made again.
+    #[inline(always)]
     pub fn act<M: Memory>(&mut self, mem: &mut M, actor: Actor) -> Acted
         requires { CanBeSound (M.words mem.old) self.old }
         ensures answer { OnDone result (result ≡ answer_of (M.words mem.old) self.old actor) }
@@ -254,6 +255,9 @@ impl Cluster {
         }
     }
 
+    // A lane acts far more often than the others, so its action stands where it is asked for, and theirs apart. What an
+    // action comes to is large: a call would hand it on through memory.
+    #[inline(always)]
     fn act_lane<M: Memory>(&mut self, mem: &mut M, lane: u8) -> Acted
         requires { CanBeSound (M.words mem.old) self.old }
         ensures answer { OnDone result (result
@@ -286,6 +290,7 @@ impl Cluster {
 
     /// The lane that stands there takes the word that its action found. The session of a call that is made then is told
     /// its position.
+    #[inline(always)]
     fn lane_takes(&mut self, at: usize, word: u64) -> Turn
         requires { TakesAt self.old at word }
         ensures turn { (x : Node) → slice_get self.old.nodes at ≡ Some x
@@ -303,6 +308,7 @@ impl Cluster {
         turn
     }
 
+    #[inline(never)]
     fn act_merger<M: Memory>(&mut self, mem: &mut M, lane: u8) -> Acted
         requires { CanBeSound (M.words mem.old) self.old }
         ensures answer { OnDone result (result
@@ -328,6 +334,7 @@ impl Cluster {
         }
     }
 
+    #[inline(never)]
     fn act_monitor<M: Memory>(&mut self, mem: &mut M) -> Acted
         requires { CanBeSound (M.words mem.old) self.old }
         ensures answer { OnDone result (result
@@ -375,6 +382,7 @@ impl Cluster {
         }
     }
 
+    #[inline(never)]
     fn act_session<M: Memory>(&mut self, mem: &mut M, session: u32) -> Acted
         requires { CanBeSound (M.words mem.old) self.old }
         ensures answer { OnDone result (result
