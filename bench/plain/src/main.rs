@@ -100,7 +100,8 @@ impl<'a> World<'a> {
             };
         }
         let (calls, given) = (self.calls, self.given);
-        let _ = writeln!(out, "lane 1 live stamp {} len {} mark 0", self.stamp, self.len);
+        let (stamp, len) = (self.stamp, self.len);
+        let _ = writeln!(out, "lane 1 live stamp {stamp} len {len} mark {len}");
         let made = self.history.len();
         let _ = writeln!(
             out,
