@@ -179,6 +179,8 @@ impl Player {
     }
 
     /// The world does an event, which is counted.
+    // Each event has a place of its own, where its kind is known and only what it needs is left.
+    #[inline(always)]
     fn event<M: Memory>(&mut self, mem: &mut M, event: Event) -> Result<Outcome, Stop>
         requires can { CanGive (M.words mem.old) self.old event }
         ensures gives { IfOk result (Gives (M.words mem.old) self.old (M.words mem.new) self.new

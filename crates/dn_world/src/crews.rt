@@ -78,6 +78,7 @@ pub struct Came {
 }
 
 /// An outcome without a receipt.
+#[inline(always)]
 fn bare(outcome: Outcome) -> Came
     ensures { result ≡ bare outcome }
 {
@@ -269,6 +270,7 @@ impl Crew {
     }
 
     /// A lane makes its next action.
+    #[inline(always)]
     pub fn step<M: Memory>(&mut self, mem: &mut M, lane: u8) -> Result<Came, OutOfMemory>
         requires can { CanBeWorld (M.words mem.old) self.old }
         ensures came { IfOk result (λ came. OnDone came.outcome (Comes (M.words mem.old) self.old
@@ -291,7 +293,8 @@ impl Crew {
         self.begin_next(mem, lane)
     }
 
-    /// A lane with nothing under way takes up what waits there.
+    /// A lane with nothing under way takes up what waits there. Most actions begin nothing.
+    #[inline(never)]
     fn begin_next<M: Memory>(&mut self, mem: &mut M, lane: u8) -> Result<Came, OutOfMemory>
         requires free { IsFree (M.words mem.old) self.old lane }
         ensures came { IfOk result (λ came. OnDone came.outcome (Comes (M.words mem.old) self.old
@@ -363,6 +366,7 @@ impl Crew {
     }
 
     /// A lane carries out its next action.
+    #[inline(always)]
     fn act<M: Memory>(&mut self, mem: &mut M, lane: u8) -> Came
         requires can { CanBeSound (M.words mem.old) self.old.cluster }
         requires lane { IsLane lane }
@@ -381,6 +385,7 @@ impl Crew {
     }
 
     /// A lane has answered.
+    #[inline(always)]
     fn turned(&mut self, lane: u8, turn: Turn) -> Came
         requires lane { IsLane lane }
         requires session { IsSessionOf (at_lane self.old.waiting lane).begun }
@@ -402,7 +407,8 @@ impl Crew {
         }
     }
 
-    /// The attempt that is under way at a lane has ended.
+    /// The attempt that is under way at a lane has ended. Most actions end none.
+    #[inline(never)]
     fn end(&mut self, lane: u8, answer: CallAnswer) -> Outcome
         requires lane { IsLane lane }
         requires session { IsSessionOf (at_lane self.old.waiting lane).begun }
@@ -695,6 +701,7 @@ fn end_of(answer: CallAnswer) -> AttemptEnd
 }
 
 /// An answer without its receipt, and the receipt.
+#[inline(always)]
 fn parts(answer: Answer) -> (CallAnswer, Option<Receipt>)
     ensures told { result.0 ≡ told_of answer }
     ensures receipt { result.1 ≡ receipt_in answer }

@@ -48,6 +48,7 @@ impl Model for World {
 }
 
 /// Keeps the receipt that came with an outcome, if one did, behind those that stand. There is room for it.
+#[inline(always)]
 fn keep(standing: &mut Vec<Standing>, came: Came) -> Outcome
     requires { vec_len standing.old < vec_capacity standing.old }
     ensures outcome { result ≡ came.outcome }
@@ -73,6 +74,8 @@ impl World {
     ///
     /// Want of memory changes nothing: no access was tried. `Fault` comes exactly where the access to the pool
     /// failed; then the action was done or not done, and nothing is said of the world after it.
+    // Who gives an event names its kind, so that the choice among kinds is made before the program runs.
+    #[inline(always)]
     pub fn event<M: Memory>(&mut self, mem: &mut M, event: Event) -> Result<Outcome, OutOfMemory>
         requires can { CanBeSound (M.words mem.old) self.old }
         requires event { MayBeGiven self.old event }
@@ -91,7 +94,9 @@ impl World {
         }
     }
 
-    /// A lane makes its next action: the event that comes most often, by itself.
+    /// A lane makes its next action: the event that comes most often, by itself. All on its way to the lane is carried out in
+    /// place, since each call would hand an outcome with its receipt on through memory.
+    #[inline(always)]
     fn step<M: Memory>(&mut self, mem: &mut M, lane: u8) -> Result<Outcome, OutOfMemory>
         requires can { CanBeSound (M.words mem.old) self.old }
         ensures happens { IfOk result (λ outcome. OnDone outcome (Happens (M.words mem.old)
@@ -109,6 +114,7 @@ impl World {
     }
 
     /// Does one event, whatever it is.
+    #[inline(never)]
     fn do_event<M: Memory>(&mut self, mem: &mut M, event: Event) -> Result<Outcome, OutOfMemory>
         requires can { CanBeSound (M.words mem.old) self.old }
         requires event { MayBeGiven self.old event }
