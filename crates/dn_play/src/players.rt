@@ -147,6 +147,7 @@ impl Player {
     }
 
     /// Whether an event has refused an attempt of a call, where it was a load of this session's, or none.
+    #[inline(always)]
     fn refuses(&self, loader: Option<u32>, outcome: Outcome) -> bool
         requires { (s : ℕ) → loader ≡ Some s → IsSession s }
         ensures { result ≡ refused_by loader self.now.world.crew.waiting outcome }
@@ -163,6 +164,7 @@ impl Player {
     }
 
     /// Whether a get was made: its receipt is the last that has come.
+    #[inline(always)]
     fn made_get(&self, outcome: Outcome) -> bool
         ensures { result ≡ is_of_get (receipt_if (makes_call outcome) self.now.world.history) }
     {
@@ -202,6 +204,7 @@ impl Player {
     }
 
     /// The world has done an event with this outcome: unless its access has failed, it is counted.
+    #[inline(always)]
     fn done(&mut self, loader: Option<u32>, outcome: Outcome) -> Result<Outcome, Stop>
         requires room { HasRoom self.old.counts }
         requires events { self.old.events < 2 ^ 22 }
@@ -222,6 +225,7 @@ impl Player {
     }
 
     /// Counts an event that the world has done.
+    #[inline(always)]
     fn count(&mut self, loader: Option<u32>, outcome: Outcome)
         requires room { HasRoom self.old.counts }
         requires loader { (s : ℕ) → loader ≡ Some s → IsSession s }

@@ -52,6 +52,7 @@ pub fn is_made(answer: CallAnswer) -> bool
 }
 
 /// Counts an event: its outcome, whether the receipt that came to stand by it is of a get, and whether it refused an attempt.
+#[inline(always)]
 pub fn tally(counts: &mut Counts, outcome: Outcome, get: bool, refused: bool)
     requires { HasRoom counts.old }
     ensures { counts.new ≡ added counts.old outcome get refused }
