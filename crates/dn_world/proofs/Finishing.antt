@@ -42,7 +42,7 @@ use Rattle.dn_world.proofs.Stepping.{on_made}
 -- The mergers act, lane after lane.
 
 -- ---- runs
-after_append : (w : World) (xs ys : List (Event × List ℕ)) → after w (xs ++ ys) ≡ after (after w xs) ys
+pub after_append : (w : World) (xs ys : List (Event × List ℕ)) → after w (xs ++ ys) ≡ after (after w xs) ys
 after_append w [] ys = refl
 after_append w (x ∷ xs) ys = after_append (does w x.0 x.1).world xs ys
 
@@ -51,10 +51,10 @@ run_append w [] ys h k = k
 run_append w (x ∷ xs) ys h k = (h.0, run_append (does w x.0 x.1).world xs ys h.1 k)
 
 -- ---- one lane's merger
-abbrev merge_of : ℕ → Event × List ℕ
+abbrev pub merge_of : ℕ → Event × List ℕ
 merge_of n = (event.Merge n, [])
 
-abbrev with_machine : World → Machine → World
+abbrev pub with_machine : World → Machine → World
 with_machine w m = record w { machine = m }
 
 one_merge : (w : World) (n : ℕ) (o : Option Merging) → w.machine.mergers n ≡ o → (merges w n o).world ≡ with_event w (Acts (Merger n))
@@ -64,7 +64,7 @@ one_merge w n (Some x) e = refl
 does_merge : (w : World) (n : ℕ) → is_made w n ≡ true → (does w (event.Merge n) []).world ≡ with_event w (Acts (Merger n))
 does_merge w n e = ap (λ (d : Done). d.world) (on_made w n (merge w n) e) ∙ one_merge w n (w.machine.mergers n) refl
 
-merges_run : (w : World) (n k : ℕ) → is_made w n ≡ true → after w (replicate k (merge_of n)) ≡ with_machine w (run_on w.machine (actions n k))
+pub merges_run : (w : World) (n k : ℕ) → is_made w n ≡ true → after w (replicate k (merge_of n)) ≡ with_machine w (run_on w.machine (actions n k))
 merges_run w n zero e = refl
 merges_run w n (suc k) e = ap (λ (v : World). after v (replicate k (merge_of n))) (does_merge w n e) ∙ merges_run (with_event w (Acts (Merger n))) n k e
 
@@ -97,7 +97,7 @@ are_may zero es w h = subst (λ (xs : List (Event × List ℕ)). IsRun w xs) (sy
 are_may (suc n) es w h = subst (λ (xs : List (Event × List ℕ)). IsRun w xs) (sym h.3)
     (run_append w h.0 (replicate h.1 (merge_of (n + 1))) (are_may n h.0 w h.2) (merges_may (after w h.0) (n + 1) h.1))
 
-are_map : (n : ℕ) (es : List (Event × List ℕ)) (w : World) (held : Bytes) → AreMerges n es → IsWorld w → HoldsMap w.machine.words held → HoldsMap (after w es).machine.words held
+pub are_map : (n : ℕ) (es : List (Event × List ℕ)) (w : World) (held : Bytes) → AreMerges n es → IsWorld w → HoldsMap w.machine.words held → HoldsMap (after w es).machine.words held
 are_map zero es w held h sound holds = subst (λ (xs : List (Event × List ℕ)). HoldsMap (after w xs).machine.words held) (sym h) holds
 are_map (suc n) es w held h sound holds =
     let last : List (Event × List ℕ) = replicate h.1 (merge_of (n + 1)) in
@@ -111,17 +111,17 @@ abbrev pub AreActed : List ℕ → ClusterState → ℕ → List ℕ → Cluster
 AreActed words c zero now d = (now ≡ words) × (d ≡ c)
 AreActed words c (suc n) now d = (left : List ℕ) × (b : ClusterState) × (count : ℕ) × AreActed words c n left b × HasActed left b now d (n + 1) count
 
-pub drained_acted : (words : List ℕ) (c : ClusterState) (n : ℕ) (now : List ℕ) (d : ClusterState) → AreDrained words c n now d → AreActed words c n now d
+abbrev pub drained_acted : (words : List ℕ) (c : ClusterState) (n : ℕ) (now : List ℕ) (d : ClusterState) → AreDrained words c n now d → AreActed words c n now d
 drained_acted words c zero now d h = h
 drained_acted words c (suc n) now d h = (h.0, h.1, h.4.count, drained_acted words c n h.0 h.1 h.3, h.4.acted)
 
-acted_sound : (words : List ℕ) (c : ClusterState) (n : ℕ) (now : List ℕ) (d : ClusterState) (told : List Told) (receipts : List Standing) → AreActed words c n now d
+pub acted_sound : (words : List ℕ) (c : ClusterState) (n : ℕ) (now : List ℕ) (d : ClusterState) (told : List Told) (receipts : List Standing) → AreActed words c n now d
     → IsSound c.segments (machine_of words c told receipts) → IsSound d.segments (machine_of now d told receipts)
 acted_sound words c zero now d told receipts h s =
     subst (λ (x : ClusterState). IsSound x.segments (machine_of now x told receipts)) (sym h.1) (subst (λ (ws : List ℕ). IsSound c.segments (machine_of ws c told receipts)) (sym h.0) s)
 acted_sound words c (suc n) now d told receipts h s = (h.4.is told receipts (acted_sound words c n h.0 h.1 told receipts h.3 s)).sound
 
-abbrev merges_by : (words : List ℕ) (c : ClusterState) (n : ℕ) (now : List ℕ) (d : ClusterState) → AreActed words c n now d → List (Event × List ℕ)
+abbrev pub merges_by : (words : List ℕ) (c : ClusterState) (n : ℕ) (now : List ℕ) (d : ClusterState) → AreActed words c n now d → List (Event × List ℕ)
 merges_by words c zero now d h = []
 merges_by words c (suc n) now d h = merges_by words c n h.0 h.1 h.3 ++ replicate h.2 (merge_of (n + 1))
 
@@ -129,10 +129,10 @@ are_merges : (words : List ℕ) (c : ClusterState) (n : ℕ) (now : List ℕ) (d
 are_merges words c zero now d h = refl
 are_merges words c (suc n) now d h = (merges_by words c n h.0 h.1 h.3, h.2, are_merges words c n h.0 h.1 h.3, refl)
 
-lane_made : (w : World) (n : ℕ) → n + 1 ≤ w.made → is_made w (n + 1) ≡ true
+pub lane_made : (w : World) (n : ℕ) → n + 1 ≤ w.made → is_made w (n + 1) ≡ true
 lane_made w n le = ap (λ (b : Bool). b && nat_le (n + 1) w.made) (lt-ltb 0 (n + 1) (omega arith)) ∙ le-leb (n + 1) w.made le
 
-acted_run : (w : World) (words : List ℕ) (c : ClusterState) (n : ℕ) (now : List ℕ) (d : ClusterState) (told : List Told) (receipts : List Standing) → n ≤ w.made → (h : AreActed words c n now d)
+pub acted_run : (w : World) (words : List ℕ) (c : ClusterState) (n : ℕ) (now : List ℕ) (d : ClusterState) (told : List Told) (receipts : List Standing) → n ≤ w.made → (h : AreActed words c n now d)
     → IsSound c.segments (machine_of words c told receipts) → after (with_machine w (machine_of words c told receipts)) (merges_by words c n now d h) ≡ with_machine w (machine_of now d told receipts)
 acted_run w words c zero now d told receipts le h s = λ i. with_machine w (machine_of (sym h.0 i) (sym h.1 i) told receipts)
 acted_run w words c (suc n) now d told receipts le h s =

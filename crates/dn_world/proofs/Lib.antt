@@ -17,3 +17,5 @@ pub mod Granting
 pub mod Adding
 pub mod Opened
 pub mod Whole
+pub mod Draining
+pub mod Determined

@@ -5,5 +5,6 @@ pub mod Takes
 pub mod Gives
 pub mod Happens
 pub mod Finishes
+pub mod Drains
 pub mod Opening
 pub mod OpenFaults

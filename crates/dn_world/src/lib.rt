@@ -7,6 +7,7 @@
 
 mod crews;
 mod finishes;
+pub mod laws;
 mod leaving;
 mod open_faults;
 mod routes;

@@ -1,6 +1,5 @@
 use Rattle.std.proofs.Common.{ℕ, Bool, ◌≡◌, ◌∙◌, List, [], refl, sym, ap, subst, arith}
 use Rattle.dn_act.specs.Action.{MayPerform}
-use Rattle.dn_act.specs.Words.{pool_size}
 use Rattle.dn_cluster.specs.Acting.{format_of}
 use Rattle.dn_world.specs.Opening.{HasFormat, IsOpened, IsWhole, MayGoOn, formatted}
 use Rattle.dn_world.specs.State.{CrewState}
