@@ -1,8 +1,10 @@
-use Rattle.std.proofs.Common.{ℕ, zero, suc, ◌≡◌, ◌++◌, ◌+◌, List, [], length, Option, refl, sym, ◌∙◌, ap, subst, append_assoc, Result, Ok, Err, OnOk, IfOk, IfErr}
+use Rattle.std.proofs.Common.{ℕ, zero, suc, ◌≡◌, ◌≤◌, ◌++◌, ◌+◌, List, [], length, Option, refl, sym, ◌∙◌, ap, subst, append_assoc, arith, Result, Ok, Err, OnOk, IfOk, IfErr}
 use Rattle.std.specs.FinMap.{len}
 use Rattle.std.specs.List.Sorted.{IsPermutation}
 use Rattle.dn_callers.specs.Callers.{Standing, receipts_of}
 use Rattle.dn_drain.specs.Acted.{LeavesActors}
+use Rattle.dn_drain.specs.All.{AreDrained, IsLaneFault}
+use Rattle.dn_drain.specs.declared.drains.DrainFault.TheVariants as drain
 use Rattle.dn_hist.specs.Receipt.{IsInOrder}
 use Rattle.dn_hist.specs.Replay.{map_left}
 use Rattle.dn_lane.specs.State.{LaneState}
@@ -25,9 +27,11 @@ use Rattle.dn_route.specs.CallersOrder.{Told}
 use Rattle.dn_waiting.specs.Stops.{waiting_from}
 use Rattle.dn_script.specs.declared.scripts.Line.{Line}
 use Rattle.dn_word.specs.Gate.{gate_of}
+use Rattle.dn_world.specs.Drains.{DrainsAll, FillsIndex}
 use Rattle.dn_world.specs.Finishes.{Finishes, HaveEnded}
 use Rattle.dn_world.specs.State.{WorldState, world_of}
 use Rattle.dn_drain.specs.declared.drains.Merged.{Merged}
+use Rattle.dn_world.proofs.Draining.{drains_all, fills_index}
 use Rattle.dn_whole.specs.Close.{AreMerged, IsDone, IsDrained, Leaves, Reports}
 
 -- A player at the end of its run is closed.
@@ -47,6 +51,22 @@ made_of w lines words p old r at = ap (λ (x : World). x.made) at.world
 
 pub merged_of : (n : ℕ) (words : List ℕ) (ended : List Merged) → HaveEnded words n ended → AreMerged n words
 merged_of n words ended h = record { all = λ k lo hi. (let e = h.each k lo hi in ap (λ (g : ℕ). (gate_of g).len) e.gate_is ∙ e.all ∙ sym e.mark_is) }
+
+-- ---- how far
+sound_at : (w : World) (lines : List Line) (words : List ℕ) (p : Player) (old : List ℕ) (r : Run) → IsAt w lines words p old r → IsWorld (world_of words p.world.crew r.world.machine.callers.told p.world.history)
+sound_at w lines words p old r at = subst IsWorld (sym at.world) at.going.sound
+
+drains_of : (w : World) (lines : List Line) (words : List ℕ) (p : Player) (old : List ℕ) (r : Run) (now : List ℕ) (v : WorldState) → IsAt w lines words p old r
+    → AreDrained words p.world.crew.cluster (length p.world.crew.cluster.nodes) now v.crew.cluster → DrainsAll r.world now
+drains_of w lines words p old r now v at h =
+    subst (λ (x : World). DrainsAll x now) at.world (drains_all words p.world now v.crew.cluster r.world.machine.callers.told (sound_at w lines words p old r at) h)
+
+pub fills_of : (w : World) (lines : List Line) (words : List ℕ) (p : Player) (old : List ℕ) (r : Run) (now : List ℕ) (v : WorldState) (lane counter : ℕ) → IsAt w lines words p old r
+    → length v.crew.cluster.nodes ≡ length p.world.crew.cluster.nodes → IsLaneFault words p.world.crew.cluster now v.crew.cluster (record { lane = lane; fault = drain.IndexFull counter }) → FillsIndex r.world lane counter now
+fills_of w lines words p old r now v lane counter at many h =
+    let most : lane ≤ length v.crew.cluster.nodes = h.made.1 in
+    subst (λ (x : World). FillsIndex x lane counter now) at.world
+    (fills_index words p.world now v.crew.cluster r.world.machine.callers.told lane counter (sound_at w lines words p old r at) (omega (arith, most, many)) h)
 
 -- ---- what is printed
 abbrev line_of : List ℕ → ℕ → Option LaneState → List ℕ
@@ -80,6 +100,7 @@ pub record IsClosed (words : List ℕ) (p : Player) (mid now : List ℕ) (v : Wo
   pub unanswered : mid ≡ old ++ unanswered_text calls
   pub many : waiting ≡ length calls
   pub finishes : Finishes words p.world now v (length p.world.crew.cluster.nodes)
+  pub all : AreDrained words p.world.crew.cluster (length p.world.crew.cluster.nodes) now v.crew.cluster
   pub ended : HaveEnded now (length p.world.crew.cluster.nodes) v.ended
   pub leaves : LeavesActors p.world.crew.cluster v.crew.cluster
   pub lanes : length v.crew.cluster.nodes ≡ length p.world.crew.cluster.nodes
@@ -91,6 +112,7 @@ done_of w lines words p old mid now new r v calls waiting at h =
     let rep = h.reports r.world.machine.callers.told in
     let made = made_of w lines words p old r at in record {
       drained = subst (λ (n : ℕ). IsDrained r n now) made (drained_of w lines words p old r now v (length p.world.crew.cluster.nodes) at h.finishes);
+      drains = drains_of w lines words p old r now v at h.all;
       merged = subst (λ (n : ℕ). AreMerged n now) made (merged_of (length p.world.crew.cluster.nodes) now v.ended h.ended);
       history = rep.history;
       once = subst (λ (hs : List Standing). IsPermutation hs rep.history) (h.stays ∙ ap (λ (x : World). x.machine.callers.receipts) at.world) rep.once;

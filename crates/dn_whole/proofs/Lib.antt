@@ -1,2 +1,6 @@
+pub mod Sorting
+pub mod Histories
+pub mod Moments
 pub mod Closing
 pub mod Opening
+pub mod Determined

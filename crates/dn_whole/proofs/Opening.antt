@@ -1,4 +1,8 @@
 use Rattle.std.proofs.Common.{ℕ, ◌≡◌, List, [], All, inl, inr, refl, sym, ◌∙◌, subst, arith}
+use Rattle.dn_callers.specs.Callers.{Standing}
+use Rattle.dn_hist.specs.Calls.{Bytes}
+use Rattle.dn_model.specs.PoolMap.{HoldsMap}
+use Rattle.dn_outcomes.specs.Sound.{IsWorld}
 use Rattle.dn_outcomes.specs.State.{World}
 use Rattle.dn_play.specs.At.{IsAt, IsStarted, IsFollowed, CanGo, Follow, Reached, Reaches, Halts, StopsOpening}
 use Rattle.dn_play.specs.declared.players.Player.{Player}
@@ -6,13 +10,16 @@ use Rattle.dn_play.specs.declared.stops.Stop.{Stop}
 use Rattle.dn_play.specs.declared.stops.Stop.TheVariants as stop
 use Rattle.dn_play.proofs.Stopping.{words_at}
 use Rattle.dn_run.specs.Run.{Run, run_of, after_steps}
+use Rattle.dn_run.proofs.Going.{goes, uncalled}
 use Rattle.dn_run.proofs.Heads.{heads}
 use Rattle.dn_script.specs.Fit.{IsLine}
 use Rattle.dn_script.specs.declared.scripts.Line.{Line}
 use Rattle.dn_script.specs.declared.scripts.Script.{Script}
 use Rattle.dn_world.specs.State.{world_of}
-use Rattle.dn_whole.specs.Close.{Closes, StopsClose, Ends, Stops}
-use Rattle.dn_whole.specs.Whole.{IsMoment, IsShort, IsLong, Plays, StopsPlay}
+use Rattle.dn_world.proofs.Finishing.{are_map}
+use Rattle.dn_whole.specs.Close.{Closes, StopsClose, Ends, Stops, Leaves}
+use Rattle.dn_whole.specs.Whole.{IsMoment, IsShort, IsLong, LeavesMoment, Plays, StopsPlay}
+use Rattle.dn_whole.proofs.Sorting.{sorted, sorted_once, sorted_in_order}
 use Rattle.dn_whole.specs.declared.ends.End.{End}
 use Rattle.dn_whole.specs.declared.ends.End.TheVariants.{Done, Long, IndexFull}
 
@@ -77,6 +84,7 @@ plays_end script before words now fin p q out new last end h reached closes =
         over = record { between = reached.followed.between; lines = reached.followed.lines };
         short = short_of (first words p) script.lines now q new (after_steps reached.count (run_from script words p)) reached.at;
         drained = d.drained;
+        drains = d.drains;
         merged = d.merged;
         history = d.history;
         headline = heads (first words p) script.lines reached.count fin d.history reached.at.start reached.at.fresh h.fit d.once d.sorted d.drained.map;
@@ -91,6 +99,7 @@ plays_end script before words now fin p q out new last end h reached closes =
         lane = d.lane;
         counter = d.counter;
         drained = d.drained;
+        fills = d.fills;
         full = d.full;
         output = d.output;
       }
@@ -107,6 +116,24 @@ plays_long script before words now p q out new ls h is halts =
     }
 
 -- ---- or stops
+-- what mergers alone leave holds the map
+map_left_by : (r : Run) (now : List ℕ) (held : Bytes) → IsWorld r.world → Leaves r now → HoldsMap r.world.machine.words held → HoldsMap now held
+map_left_by r now held sound h holds = subst (λ (ws : List ℕ). HoldsMap ws held) h.words (are_map h.lanes h.es r.world held h.merges sound holds)
+
+leaves_moment : (script : Script) (before words : List ℕ) (p : Player) (out : List ℕ) (count : ℕ) (now : List ℕ) → IsOpen script before words p out → Leaves (after_steps count (run_from script words p)) now → LeavesMoment script before now
+leaves_moment script before words p out count now h leaves =
+    let w : World = first words p in
+    let r : Run = after_steps count (run_from script words p) in
+    let at = at_first script before words p out h in
+    let sound : IsWorld r.world = (goes w script.lines count at.start (uncalled w at.fresh) h.fit).sound in
+    let stands : List Standing = r.world.machine.callers.receipts in record {
+      run = r;
+      moment = moment_of script before words p out count h;
+      leaves = leaves;
+      history = sorted stands;
+      headline = heads w script.lines count now (sorted stands) at.start at.fresh h.fit (sorted_once stands) (sorted_in_order stands) (λ held holds. map_left_by r now held sound leaves holds);
+    }
+
 pub stops_opening : (script : Script) (before now : List ℕ) (why : Stop) → StopsOpening before now why → StopsPlay script before now why
 stops_opening script before now stop.Long h = h
 stops_opening script before now stop.Pool h = tt
@@ -117,7 +144,7 @@ stops_lines script before words now p q out new ls stop.Long h is short halts = 
 stops_lines script before words now p q out new ls stop.Pool h is short halts = tt
 stops_lines script before words now p q out new ls stop.OutOfMemory h is short halts =
     let l = halts.is (first words p) script.lines (run_from script words p) (at_first script before words p out h) (follows_first script words p ls is) in
-    inr (record { run = after_steps l.count (run_from script words p); moment = moment_of script before words p out l.count h; leaves = record { lanes = 0; es = []; merges = refl; words = l.words } })
+    inr (leaves_moment script before words p out l.count now h (record { lanes = 0; es = []; merges = refl; words = l.words }))
 
 pub stops_close : (script : Script) (before words now fin : List ℕ) (p q : Player) (out new : List ℕ) (why : Stop) → IsOpen script before words p out → Reached (first words p) script.lines now q new (run_from script words p) [] → StopsClose now q new fin why
     → StopsPlay script before fin why
@@ -126,4 +153,4 @@ stops_close script before words now fin p q out new why h reached stops =
       by : (why : Stop) → Stops (after_steps reached.count (run_from script words p)) fin why → StopsPlay script before fin why
       by stop.Long s = s
       by stop.Pool s = tt
-      by stop.OutOfMemory s = inr (record { run = after_steps reached.count (run_from script words p); moment = moment_of script before words p out reached.count h; leaves = s })
+      by stop.OutOfMemory s = inr (leaves_moment script before words p out reached.count fin h s)

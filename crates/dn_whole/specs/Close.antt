@@ -21,6 +21,7 @@ use Rattle.dn_run.specs.Output.{output_of, all_events_text, history_text, lanes_
 use Rattle.dn_run.specs.Run.{Run}
 use Rattle.dn_run.specs.declared.counts.Counts.{Counts}
 use Rattle.dn_script.specs.declared.scripts.Line.{Line}
+use Rattle.dn_world.specs.Drains.{DrainsAll, FillsIndex}
 use Rattle.dn_world.specs.Finishes.{AreMerges}
 use Rattle.dn_world.specs.State.{WorldState, world_of}
 use Rattle.dn_whole.specs.declared.ends.End.{End}
@@ -53,6 +54,7 @@ pub record AreMerged (n : ℕ) (words : List ℕ) : Type 0 where
 -- ---- how it ends
 pub record IsDone (r : Run) (now out : List ℕ) : Type 0 where
   pub drained : IsDrained r r.world.made now
+  pub drains : DrainsAll r.world now
   pub merged : AreMerged r.world.made now
   pub history : List Standing
   pub once : IsPermutation r.world.machine.callers.receipts history
@@ -64,6 +66,7 @@ pub record IsIndexFull (r : Run) (now out : List ℕ) : Type 0 where
   pub lane : ℕ
   pub counter : ℕ
   pub drained : IsDrained r lane now
+  pub fills : FillsIndex r.world lane counter now
   pub full : IsFull now lane counter
   pub output : out ≡ all_events_text r
 

@@ -9,6 +9,7 @@ use Rattle.dn_run.specs.Output.{output_of, all_events_text}
 use Rattle.dn_run.specs.Run.{Run, IsOver, run_of, after_steps}
 use Rattle.dn_run.specs.Text.{events_text}
 use Rattle.dn_script.specs.declared.scripts.Script.{Script}
+use Rattle.dn_world.specs.Drains.{DrainsAll, FillsIndex}
 use Rattle.dn_world.specs.Opening.{IsOpened}
 use Rattle.dn_world.specs.State.{WorldState, world_of}
 use Rattle.dn_whole.specs.Close.{IsDrained, AreMerged, Leaves}
@@ -38,6 +39,7 @@ pub record IsPlayed (script : Script) (before now out : List ℕ) : Type 0 where
   pub over : IsOver run
   pub short : IsShort run
   pub drained : IsDrained run run.world.made now
+  pub drains : DrainsAll run.world now
   pub merged : AreMerged run.world.made now
   pub history : List Standing
   pub headline : IsHeadline script.lines run now history
@@ -62,6 +64,7 @@ pub record IsFullAtEnd (script : Script) (before now out : List ℕ) : Type 0 wh
   pub lane : ℕ
   pub counter : ℕ
   pub drained : IsDrained run lane now
+  pub fills : FillsIndex run.world lane counter now
   pub full : IsFull now lane counter
   pub output : out ≡ all_events_text run
 
@@ -70,13 +73,22 @@ Plays script before now out Done = IsPlayed script before now out
 Plays script before now out Long = IsLong script before now out
 Plays script before now out IndexFull = IsFullAtEnd script before now out
 
--- ---- or stops: the words are untouched, or those of a moment after some actions of mergers
+-- ---- or stops: the words are untouched, or those of a moment after some actions of mergers. Then all that the headline says is so
+-- of that moment, by a history of the receipts that stand there: the words hold the map that this history leaves.
 pub record LeavesMoment (script : Script) (before now : List ℕ) : Type 0 where
   pub run : Run
   pub moment : IsMoment script before run
   pub leaves : Leaves run now
+  pub history : List Standing
+  pub headline : IsHeadline script.lines run now history
 
 abbrev pub StopsPlay : Script → List ℕ → List ℕ → Stop → Type 0
 StopsPlay script before now stop.Long = ⊥
 StopsPlay script before now stop.Pool = Unit {0}
 StopsPlay script before now stop.OutOfMemory = (now ≡ before) ⊎ LeavesMoment script before now
+
+-- ---- two plays come to the same
+pub record AreSame (now out : List ℕ) (end : End) (fin last : List ℕ) (stop : End) : Type 0 where
+  pub ends : end ≡ stop
+  pub words : now ≡ fin
+  pub outputs : out ≡ last

@@ -2,7 +2,7 @@ use Rattle.std.proofs.Common.{ℕ, List, length, refl, sym, subst, ap, ◌∙◌
 use Rattle.dn_world.specs.Finishes.{HaveEnded, IsFinishFault}
 use Rattle.dn_world.specs.declared.finishes.FinishFault.{FinishFault}
 use Rattle.dn_play.specs.declared.players.Player.{Player}
-use Rattle.dn_whole.proofs.Closing.{drained_of, events_printed, leaves_now, leaves_drained, done_of}
+use Rattle.dn_whole.proofs.Closing.{drained_of, fills_of, events_printed, leaves_now, leaves_drained, done_of}
 use Rattle.dn_whole.proofs.plays.close.Goals as goal
 
 pub returns-in_default-clause-stops : goal.returns-in_default-clause-stops
@@ -21,6 +21,7 @@ returns-in-Err-IndexFull-clause-closes g c =
         lane = full.lane;
         counter = c.in-Err-IndexFull.field-0-0;
         drained = drained_of w lines (g.M.Memory.words c.args.mem.now) c.args.player c.args.out.now.items r (g.M.Memory.words c.finish.new.mem) c.finish.new.self full.lane at full.finishes;
+        fills = fills_of w lines (g.M.Memory.words c.args.mem.now) c.args.player c.args.out.now.items r (g.M.Memory.words c.finish.new.mem) c.finish.new.self full.lane c.in-Err-IndexFull.field-0-0 at c.finish.ensures.lanes full.at;
         full = full.full;
         output = events_printed w lines (g.M.Memory.words c.args.mem.now) c.args.player c.args.out.now.items c.unanswered.new.out.items r c.deref.result.now at (c.deref.ensures.value ∙ c.in-Ok.ensures) c.in-Ok-unanswered.ensures;
       };
@@ -37,6 +38,7 @@ returns-in-Ok-summary-clause-closes g c =
             unanswered = c.in-Ok-unanswered.ensures;
             many = c.len.ensures ∙ c.in-Ok.calls.ok.0 ∙ ap (λ (cs : List (ℕ × ℕ)). length cs) (sym c.deref.ensures.value);
             finishes = c.in-Ok-finish.ensures.finishes;
+            all = c.in-Ok-finish.ensures.drained;
             ended = c.in-Ok-finish.ensures.ended;
             leaves = c.finish.ensures.actors;
             lanes = c.finish.ensures.lanes;
