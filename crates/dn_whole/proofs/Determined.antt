@@ -1,7 +1,6 @@
 use Rattle.std.proofs.Common.{ℕ, ◌+◌, ◌≤◌, ◌^◌, ◌≡◌, List, length, refl, sym, ◌∙◌, ap, subst, arith}
 use Rattle.dn_act.specs.Words.{IsZeros}
 use Rattle.dn_callers.specs.Callers.{Standing}
-use Rattle.dn_outcomes.specs.State.{World}
 use Rattle.dn_run.specs.Headline.{IsHeadline}
 use Rattle.dn_run.specs.Output.{output_of, all_events_text}
 use Rattle.dn_run.specs.Run.{Run}

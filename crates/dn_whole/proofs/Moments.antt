@@ -1,4 +1,4 @@
-use Rattle.std.proofs.Common.{ℕ, zero, suc, ◌+◌, ◌<◌, ◌≤◌, ◌^◌, ◌≡◌, inl, inr, List, [], ◌∷◌, Option, Some, None, length, refl, sym, ◌∙◌, ap, subst, arith}
+use Rattle.std.proofs.Common.{ℕ, zero, suc, ◌+◌, ◌<◌, ◌≤◌, ◌≡◌, inl, inr, List, [], ◌∷◌, Option, Some, None, length, refl, sym, ◌∙◌, ap, subst, arith}
 use Rattle.std.proofs.lemmas.Bool.{cases_eq, cases_lt}
 use Rattle.std.proofs.lemmas.List.{length_push}
 use Rattle.std.proofs.lemmas.Option.{none-some}
@@ -15,7 +15,7 @@ use Rattle.dn_script.specs.declared.scripts.Line.{Line}
 use Rattle.dn_script.specs.declared.scripts.Script.{Script}
 use Rattle.dn_world.specs.State.{world_of}
 use Rattle.dn_world.proofs.Determined.{one_opening}
-use Rattle.dn_whole.specs.Whole.{IsMoment, IsShort}
+use Rattle.dn_whole.specs.Whole.{IsMoment}
 
 -- A run is over at one moment alone, and has had so many events at one alone that has a next.
 

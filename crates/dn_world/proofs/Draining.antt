@@ -34,12 +34,16 @@ drains_lanes w words c zero now d told receipts le h s = refl
 drains_lanes w words c (suc n) now d told receipts le h s =
     let first : World = with_machine w (machine_of words c told receipts) in
     let acted : AreActed words c n h.0 h.1 = drained_acted words c n h.0 h.1 h.3 in
-    let led : after first (merges_by words c n h.0 h.1 acted) ≡ with_machine w (machine_of h.0 h.1 told receipts) = acted_run w words c n h.0 h.1 told receipts (omega (arith, le)) acted s in
-    (merges_by words c n h.0 h.1 acted, h.2, drains_lanes w words c n h.0 h.1 told receipts (omega (arith, le)) h.3 s, record {
-      count = h.4.count;
-      drains = subst (λ (v : World). Drains (alone_of v (n + 1)) h.4.count (idle_of h.2)) (sym led) h.4.drains;
-      events = refl;
-    })
+    let led : after first (merges_by words c n h.0 h.1 acted) ≡ with_machine w (machine_of h.0 h.1 told receipts) = acted_run w words c n h.0 h.1 told receipts (omega (arith, le)) acted s in (
+      merges_by words c n h.0 h.1 acted,
+      h.2,
+      drains_lanes w words c n h.0 h.1 told receipts (omega (arith, le)) h.3 s,
+      record {
+        count = h.4.count;
+        drains = subst (λ (v : World). Drains (alone_of v (n + 1)) h.4.count (idle_of h.2)) (sym led) h.4.drains;
+        events = refl;
+      },
+    )
 
 pub drains_all : (words : List ℕ) (w : WorldState) (now : List ℕ) (d : ClusterState) (told : List Told) → IsWorld (world_of words w.crew told w.history)
     → AreDrained words w.crew.cluster (length w.crew.cluster.nodes) now d → DrainsAll (world_of words w.crew told w.history) now
