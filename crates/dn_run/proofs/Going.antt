@@ -187,7 +187,7 @@ may_go w (Repeat x zero) e i own next = absurd (none-some e next)
 may_go w (Repeat x (suc k)) e i own next = repeat_goes w x k e i (cc)
 
 -- what isn't to be done starts nothing
-no_start : (w : World) (d : Doing) → next_of w d ≡ None → call_left d ≡ []
+pub no_start : (w : World) (d : Doing) → next_of w d ≡ None → call_left d ≡ []
 no_start w Rest e = refl
 no_start w (Start s lane b call) e = absurd (none-some (event.Start s lane call) (sym e))
 no_start w (Finish s) e = refl

@@ -117,7 +117,7 @@ event_looks w e heirs h n s number look cell given is told =
     (looked w n heirs s number look cell given h (ap (λ (x : Event). (does w x heirs).outcome) (sym is) ∙ told)).other
 
 -- ---- starts
-start_started : (w : World) (s : ℕ) (named : Option ℕ) (call : Call) → IsStarted (start w s named call).outcome
+pub start_started : (w : World) (s : ℕ) (named : Option ℕ) (call : Call) → IsStarted (start w s named call).outcome
 start_started w s named call = by_name (may_name w named) where
   by_closed : (b : Bool) → IsStarted (start_unless w s named call b).outcome
   by_closed true = tt

@@ -1,2 +1,5 @@
 pub mod Going
 pub mod Heads
+pub mod Asked
+pub mod Plain
+pub mod Balance

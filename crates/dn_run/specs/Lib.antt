@@ -6,4 +6,6 @@ pub mod Counts
 pub mod Output
 pub mod Uncalled
 pub mod Headline
+pub mod Asked
+pub mod Balance
 pub mod Going

@@ -10,8 +10,10 @@ ghost use Rattle.dn_outcomes.specs.Sound.{IsWorld};
 ghost use Rattle.dn_outcomes.specs.State.{World};
 ghost use Rattle.dn_script.specs.Fit.{IsLine};
 ghost use Rattle.dn_script.specs.declared.scripts.Line.{Line};
+ghost use Rattle.dn_run.specs.Asked.{IsAsked};
+ghost use Rattle.dn_run.specs.Balance.{AddsUp};
 ghost use Rattle.dn_run.specs.Headline.{IsHeadline};
-ghost use Rattle.dn_run.specs.Run.{after_steps, run_of, IsRunOf};
+ghost use Rattle.dn_run.specs.Run.{after_steps, run_of, IsOver, IsRunOf};
 ghost use Rattle.dn_run.specs.Uncalled.{IsUncalled};
 
 /// A run is a run of events over its world, and its world is sound throughout.
@@ -33,4 +35,18 @@ pub fn headline()
         → ((held : Bytes) → HoldsMap (after_steps n (run_of w lines)).world.machine.words held
         → HoldsMap words held)
         → IsHeadline lines (after_steps n (run_of w lines)) words history }
+{}
+
+/// The calls that a run has had, once it is over: each call line was played, in the order of the lines, and the calls that got a
+/// number, each with its session and its number there, are those that the script asks by the lines that were taken.
+pub fn asked()
+    ensures { (w : World) (lines : List Line) (n : ℕ) → IsWorld w → IsUncalled w
+        → All IsLine lines → IsOver (after_steps n (run_of w lines))
+        → IsAsked lines (after_steps n (run_of w lines)).past }
+{}
+
+/// Of a run, at any moment: each call that got a number was made, was given up, or has no answer yet; so the counts add up.
+pub fn adds_up()
+    ensures { (w : World) (lines : List Line) (n : ℕ) → IsWorld w → IsUncalled w
+        → All IsLine lines → AddsUp (after_steps n (run_of w lines)) }
 {}
