@@ -82,7 +82,7 @@ lines_all asked (l ∷ ls) (b ∷ bs) =
     ∙ sym (all_append asked (line_played l b) (lines_played ls bs))
 
 -- ---- as events: each session's last call has the number that the calls before tell
-abbrev AreNumbered : World → List AskedCall → Type 0
+abbrev pub AreNumbered : World → List AskedCall → Type 0
 AreNumbered w asked = (s : ℕ) → (w.machine.callers.sessions s).number ≡ calls_of s asked
 
 count_two : (s : ℕ) (xs ys : List AskedCall) → calls_of s (xs ++ ys) ≡ calls_of s xs + calls_of s ys
@@ -133,7 +133,7 @@ count_event s (event.Queue n t) o = refl
 count_event s event.Add o = refl
 count_event s (event.Tell t u) o = refl
 
-numbers_on : (w : World) (e : Event) (heirs : List ℕ) (asked : List AskedCall) → IsWorld w → MayHappen w e heirs → AreNumbered w asked
+pub numbers_on : (w : World) (e : Event) (heirs : List ℕ) (asked : List AskedCall) → IsWorld w → MayHappen w e heirs → AreNumbered w asked
     → AreNumbered (does w e heirs).world (asked ++ call_numbered e (does w e heirs).outcome)
 numbers_on w e heirs asked h may are s =
     let last = (event_counted w e heirs s h may).last in

@@ -107,7 +107,7 @@ outcome_told w now outcome.NoLane h = quiet_told w now outcome.NoLane h refl
 outcome_told w now (outcome.Merged turn) h = quiet_told w now (outcome.Merged turn) h refl
 outcome_told w now (outcome.Fault actor) h = quiet_told w now (outcome.Fault actor) h refl
 
-event_told : (w : World) (e : Event) (heirs : List ℕ) → IsWorld w → MayHappen w e heirs
+pub event_told : (w : World) (e : Event) (heirs : List ℕ) → IsWorld w → MayHappen w e heirs
     → ToldAs w (does w e heirs).world (does w e heirs).outcome (happening e (does w e heirs)).receipt
 event_told w e heirs h may = outcome_told w (does w e heirs).world (does w e heirs).outcome (receipts_so w e heirs h may)
 

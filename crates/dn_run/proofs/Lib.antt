@@ -3,3 +3,5 @@ pub mod Heads
 pub mod Asked
 pub mod Plain
 pub mod Balance
+pub mod Hearing
+pub mod Knowledge

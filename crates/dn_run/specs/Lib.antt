@@ -8,4 +8,5 @@ pub mod Uncalled
 pub mod Headline
 pub mod Asked
 pub mod Balance
+pub mod Knowledge
 pub mod Going

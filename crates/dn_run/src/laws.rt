@@ -13,6 +13,7 @@ ghost use Rattle.dn_script.specs.declared.scripts.Line.{Line};
 ghost use Rattle.dn_run.specs.Asked.{IsAsked};
 ghost use Rattle.dn_run.specs.Balance.{AddsUp};
 ghost use Rattle.dn_run.specs.Headline.{IsHeadline};
+ghost use Rattle.dn_run.specs.Knowledge.{IsUnheard, KnowsSo};
 ghost use Rattle.dn_run.specs.Run.{after_steps, run_of, IsOver, IsRunOf};
 ghost use Rattle.dn_run.specs.Uncalled.{IsUncalled};
 
@@ -49,4 +50,12 @@ pub fn asked()
 pub fn adds_up()
     ensures { (w : World) (lines : List Line) (n : ℕ) → IsWorld w → IsUncalled w
         → All IsLine lines → AddsUp (after_steps n (run_of w lines)) }
+{}
+
+/// Of a run, at any moment, from a world whose sessions know nothing: the last position of each session, and what sessions were
+/// told, are a fold over what has happened. A `tell` line tells a session the last position that the other one has then; nothing
+/// else tells one, and no line is left out.
+pub fn knows()
+    ensures { (w : World) (lines : List Line) (n : ℕ) → IsWorld w → IsUncalled w → IsUnheard w
+        → All IsLine lines → KnowsSo (after_steps n (run_of w lines)) }
 {}
