@@ -1,6 +1,7 @@
-use Rattle.std.proofs.Common.{◌&&◌, ℕ, ◌+◌, ◌≡◌, ◌≢◌, Bool, true, false, List, [], ◌∷◌, ◌++◌, Option, Some, None, nat_eq, nat_lt, if◌then◌else◌, refl, sym, ◌∙◌, ap, subst, append-nil, map}
+use Rattle.std.proofs.Common.{◌&&◌, ℕ, ◌+◌, ◌≡◌, ◌≢◌, Bool, true, false, List, [], ◌∷◌, ◌++◌, Option, Some, None, All, nat_eq, nat_lt, if◌then◌else◌, refl, sym, ◌∙◌, ap, subst, append-nil, map}
 use Rattle.std.specs.List.{cons_option}
 use Rattle.std.proofs.lemmas.List.{map-append}
+use Rattle.std.proofs.lemmas.List.Elements.{All-head, All-tail}
 use Rattle.dn_act.specs.declared.actions.Action.{Action}
 use Rattle.dn_hist.specs.Calls.{key_of}
 use Rattle.dn_hist.specs.declared.calls.Call.{Call}
@@ -37,6 +38,7 @@ use Rattle.dn_waiting.specs.declared.calls.OpenCall.{OpenCall}
 use Rattle.dn_outcomes.specs.Does.{queues, adds_lane, adds, tells_unless, tells, does}
 use Rattle.dn_outcomes.specs.Going.{called, goes_on, told_of, end_of, ends_by, ends_of, ends}
 use Rattle.dn_outcomes.specs.Orders.{leaves_by, release_at, release, fenced_by, unlive, orders_by, orders_of, monitor, may_order, gives_beside, give}
+use Rattle.dn_outcomes.specs.Runs.{after}
 use Rattle.dn_outcomes.specs.Starts.{session_at, route_in, routes_by, routes, start_unless, start_beside, start, refresh_of, refresh}
 use Rattle.dn_outcomes.specs.State.{World, Done, done, with_event, with_waiting, is_made, may_name, on_lane}
 use Rattle.dn_outcomes.specs.Steps.{takes_up, by_turn, acts_by, acts_of, acts, tends, tries, begins, steps_by, steps_of, step, flow_by, flow_at, flow, merges, merge}
@@ -352,3 +354,30 @@ hears w (event.Give order) heirs o = same_by w.machine.callers (give w order hei
 hears w (event.Queue n t) heirs o = on_lane_hears w n (queues w n t (w.machine.lanes n)) (queues_hears w n t (w.machine.lanes n))
 hears w event.Add heirs o = same_by w.machine.callers (adds w).world.machine.callers (adds_same w)
 hears w (event.Tell s t) heirs o = absurd o
+
+-- ---- events that change nothing of callers: lanes are added, and the monitor is given orders and acts
+abbrev pub IsOfLanes : Event → Type 0
+IsOfLanes event.Monitor = Unit {0}
+IsOfLanes (event.Give order) = Unit {0}
+IsOfLanes event.Add = Unit {0}
+IsOfLanes other = ⊥
+
+abbrev pub IsQuiet : Event × List ℕ → Type 0
+IsQuiet x = IsOfLanes x.0
+
+quiet_same : (w : World) (e : Event) (heirs : List ℕ) → IsOfLanes e → Same w.machine (does w e heirs).world.machine
+quiet_same w (event.Start s lane call) heirs o = absurd o
+quiet_same w (event.Step n) heirs o = absurd o
+quiet_same w (event.Flow n index) heirs o = absurd o
+quiet_same w (event.Merge n) heirs o = absurd o
+quiet_same w event.Monitor heirs o = monitor_same w
+quiet_same w (event.Refresh s) heirs o = absurd o
+quiet_same w (event.Give order) heirs o = give_same w order heirs
+quiet_same w (event.Queue n t) heirs o = absurd o
+quiet_same w event.Add heirs o = adds_same w
+quiet_same w (event.Tell s t) heirs o = absurd o
+
+pub quiet_after : (w : World) (es : List (Event × List ℕ)) → All IsQuiet es → (after w es).machine.callers ≡ w.machine.callers
+quiet_after w [] all = refl
+quiet_after w (x ∷ xs) all =
+    quiet_after (does w x.0 x.1).world xs (All-tail IsQuiet x xs all) ∙ quiet_same w x.0 x.1 (All-head IsQuiet x xs all)
