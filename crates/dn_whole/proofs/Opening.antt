@@ -11,7 +11,10 @@ use Rattle.dn_play.specs.declared.stops.Stop.TheVariants as stop
 use Rattle.dn_play.proofs.Stopping.{words_at}
 use Rattle.dn_run.specs.Run.{Run, run_of, after_steps}
 use Rattle.dn_run.proofs.Going.{goes, uncalled}
+use Rattle.dn_run.proofs.Asked as asking
+use Rattle.dn_run.proofs.Balance as balance
 use Rattle.dn_run.proofs.Heads.{heads}
+use Rattle.dn_run.proofs.Knowledge as knowledge
 use Rattle.dn_script.specs.Fit.{IsLine}
 use Rattle.dn_script.specs.declared.scripts.Line.{Line}
 use Rattle.dn_script.specs.declared.scripts.Script.{Script}
@@ -20,6 +23,7 @@ use Rattle.dn_world.proofs.Finishing.{are_map}
 use Rattle.dn_whole.specs.Close.{Closes, StopsClose, Ends, Stops, Leaves}
 use Rattle.dn_whole.specs.Whole.{IsMoment, IsShort, IsLong, LeavesMoment, Plays, StopsPlay}
 use Rattle.dn_whole.proofs.Sorting.{sorted, sorted_once, sorted_in_order}
+use Rattle.dn_whole.proofs.Unheard.{opened_unheard}
 use Rattle.dn_whole.specs.declared.ends.End.{End}
 use Rattle.dn_whole.specs.declared.ends.End.TheVariants.{Done, Long, IndexFull}
 
@@ -88,6 +92,9 @@ plays_end script before words now fin p q out new last end h reached closes =
         merged = d.merged;
         history = d.history;
         headline = heads (first words p) script.lines reached.count fin d.history reached.at.start reached.at.fresh h.fit d.once d.sorted d.drained.map;
+        asked = asking.asked (first words p) script.lines reached.count reached.at.start reached.at.fresh h.fit (record { between = reached.followed.between; lines = reached.followed.lines });
+        adds_up = balance.adds_up (first words p) script.lines reached.count reached.at.start reached.at.fresh h.fit;
+        knows = knowledge.knows (first words p) script.lines reached.count reached.at.start reached.at.fresh (opened_unheard before words p.world script.segments script.nodes h.started.opened) h.fit;
         output = d.output;
       }
       by Long d = absurd d

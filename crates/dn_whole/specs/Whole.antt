@@ -4,7 +4,10 @@ use Rattle.dn_drain.specs.Drained.{IsFull}
 use Rattle.dn_play.specs.At.{HasNext}
 use Rattle.dn_play.specs.declared.stops.Stop.{Stop}
 use Rattle.dn_play.specs.declared.stops.Stop.TheVariants as stop
+use Rattle.dn_run.specs.Asked.{IsAsked}
+use Rattle.dn_run.specs.Balance.{AddsUp}
 use Rattle.dn_run.specs.Headline.{IsHeadline}
+use Rattle.dn_run.specs.Knowledge.{KnowsSo}
 use Rattle.dn_run.specs.Output.{output_of, all_events_text}
 use Rattle.dn_run.specs.Run.{Run, IsOver, run_of, after_steps}
 use Rattle.dn_run.specs.Text.{events_text}
@@ -32,7 +35,8 @@ IsShort r = 129 + length r.past ≤ 2 ^ 22
 
 -- ---- how it ends
 -- All lines are played, and all that was sealed is merged. The output is that of the run, by a history with all that the
--- headline says of it.
+-- headline says of it. The calls that got a number are those that the script asks, and their counts add up; what sessions were
+-- told is a fold over what has happened.
 pub record IsPlayed (script : Script) (before now out : List ℕ) : Type 0 where
   pub run : Run
   pub moment : IsMoment script before run
@@ -43,6 +47,9 @@ pub record IsPlayed (script : Script) (before now out : List ℕ) : Type 0 where
   pub merged : AreMerged run.world.made now
   pub history : List Standing
   pub headline : IsHeadline script.lines run now history
+  pub asked : IsAsked script.lines run.past
+  pub adds_up : AddsUp run
+  pub knows : KnowsSo run
   pub output : out ≡ output_of run now history
 
 -- The run has had all events that there may be, and has a next one. The output are its event lines, and the words are the run's.
