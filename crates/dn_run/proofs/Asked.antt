@@ -1,4 +1,4 @@
-use Rattle.std.proofs.Common.{ℕ, suc, ◌≡◌, ◌+◌, ◌==◌, Bool, true, false, cond, List, [], ◌∷◌, ◌++◌, Option, All, map, length, count_by, if◌then◌else◌, refl, sym, ◌∙◌, ap, subst, append_assoc, append-nil, arith}
+use Rattle.std.proofs.Common.{ℕ, suc, ◌≡◌, ◌+◌, ◌==◌, Bool, true, false, cond, List, [], ◌∷◌, ◌++◌, Option, All, map, length, if◌then◌else◌, refl, sym, ◌∙◌, ap, append_assoc, append-nil, arith}
 use Rattle.std.proofs.lemmas.List.{map-append}
 use Rattle.std.proofs.lemmas.List.Sums.{sum_by-append}
 use Rattle.dn_hist.specs.declared.calls.Call.{Call}
@@ -16,16 +16,15 @@ use Rattle.dn_outcomes.specs.declared.outcomes.Outcome.TheVariants as outcome
 use Rattle.dn_outcomes.proofs.Counted.{event_counted}
 use Rattle.dn_outcomes.proofs.Kept.{kept}
 use Rattle.dn_outcomes.proofs.ToldEvents.{starts_so}
-use Rattle.dn_script.specs.Asked.{calls_of, with_line, asked_behind, asked_by}
+use Rattle.dn_script.specs.Asked.{calls_of, with_line, asked_behind}
 use Rattle.dn_script.specs.Fit.{IsLine}
 use Rattle.dn_script.specs.declared.asked.AskedCall.{AskedCall}
 use Rattle.dn_script.specs.declared.scripts.Line.{Line}
 use Rattle.dn_script.specs.declared.scripts.Line.TheVariants as line
 use Rattle.dn_run.specs.Asked.{PlayedLine, played_by, played_in, line_played, lines_played, call_numbered, calls_numbered, IsAsked}
-use Rattle.dn_run.specs.Counts.{numbers_call}
 use Rattle.dn_run.specs.Doing.{Doing, Rest, Start, Finish, Repeat, doing_of}
 use Rattle.dn_run.specs.Going.{IsGoing}
-use Rattle.dn_run.specs.Happening.{Happening, happening}
+use Rattle.dn_run.specs.Happening.{Happening}
 use Rattle.dn_run.specs.Headline.{CallLine, call_left, calls_left, call_started, calls_started}
 use Rattle.dn_run.specs.Run.{Run, IsOver, happenings, run_of, after_steps}
 use Rattle.dn_run.specs.Uncalled.{IsUncalled}

@@ -1,4 +1,4 @@
-use Rattle.std.proofs.Common.{◌&&◌, ℕ, ◌+◌, ◌≡◌, ◌≢◌, Bool, true, false, List, [], ◌∷◌, ◌++◌, Option, Some, None, All, nat_eq, nat_lt, if◌then◌else◌, refl, sym, ◌∙◌, ap, subst, append-nil, map}
+use Rattle.std.proofs.Common.{◌&&◌, ℕ, ◌+◌, ◌≡◌, Bool, true, false, List, [], ◌∷◌, ◌++◌, Option, Some, None, All, nat_eq, nat_lt, if◌then◌else◌, refl, sym, ◌∙◌, ap, subst, append-nil}
 use Rattle.std.specs.List.{cons_option}
 use Rattle.std.proofs.lemmas.List.{map-append}
 use Rattle.std.proofs.lemmas.List.Elements.{All-head, All-tail}
@@ -7,7 +7,6 @@ use Rattle.dn_hist.specs.Calls.{key_of}
 use Rattle.dn_hist.specs.declared.calls.Call.{Call}
 use Rattle.dn_hist.specs.declared.receipts.Receipt.{Receipt}
 use Rattle.dn_hist.specs.declared.receipts.SessionView.{SessionView}
-use Rattle.dn_word.specs.declared.positions.Position.{Position}
 use Rattle.dn_log.specs.Staged.{flow_of}
 use Rattle.dn_merge.specs.Merge.{Merging, merge_next, merge_after}
 use Rattle.dn_model.specs.Regions.{slot_of}
@@ -35,7 +34,7 @@ use Rattle.dn_waiting.specs.declared.calls.Course.TheVariants as course
 use Rattle.dn_waiting.specs.declared.calls.Next.{Next}
 use Rattle.dn_waiting.specs.declared.calls.Next.TheVariants.{Rest, Tend, Try}
 use Rattle.dn_waiting.specs.declared.calls.OpenCall.{OpenCall}
-use Rattle.dn_outcomes.specs.Does.{queues, adds_lane, adds, tells_unless, tells, does}
+use Rattle.dn_outcomes.specs.Does.{queues, adds_lane, adds, does}
 use Rattle.dn_outcomes.specs.Going.{called, goes_on, told_of, end_of, ends_by, ends_of, ends}
 use Rattle.dn_outcomes.specs.Orders.{leaves_by, release_at, release, fenced_by, unlive, orders_by, orders_of, monitor, may_order, gives_beside, give}
 use Rattle.dn_outcomes.specs.Runs.{after}

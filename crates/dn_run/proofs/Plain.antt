@@ -1,4 +1,4 @@
-use Rattle.std.proofs.Common.{ℕ, ◌≡◌, ◌+◌, ◌&&◌, Bool, true, false, Option, Some, None, nat_lt, if◌then◌else◌, refl, List}
+use Rattle.std.proofs.Common.{ℕ, ◌≡◌, ◌+◌, Bool, true, false, Option, Some, None, nat_lt, if◌then◌else◌, refl, List}
 use Rattle.std.proofs.lemmas.Bool.{false≢true}
 use Rattle.dn_act.specs.declared.actions.Action.{Action}
 use Rattle.dn_hist.specs.Calls.{key_of}
@@ -29,9 +29,9 @@ use Rattle.dn_waiting.specs.declared.calls.Next.{Next}
 use Rattle.dn_waiting.specs.declared.calls.Next.TheVariants.{Rest, Tend, Try}
 use Rattle.dn_waiting.specs.declared.calls.OpenCall.{OpenCall}
 use Rattle.dn_outcomes.specs.Does.{queues, adds_lane, adds, tells_unless, tells, does}
-use Rattle.dn_outcomes.specs.Going.{is_given, called, told_of, end_of, ends_by, ends_of, ends}
+use Rattle.dn_outcomes.specs.Going.{is_given, called, told_of, end_of, ends_of, ends}
 use Rattle.dn_outcomes.specs.Orders.{told_by as monitor_told, orders_by, orders_of, monitor, may_order, gives_beside, give}
-use Rattle.dn_outcomes.specs.Starts.{session_at, route_in, given_by, routes_by, routes, refresh_of, refresh}
+use Rattle.dn_outcomes.specs.Starts.{session_at, route_in, given_by, routes, refresh_of, refresh}
 use Rattle.dn_outcomes.specs.State.{World, Done, done, with_event, is_made, on_lane}
 use Rattle.dn_outcomes.specs.Steps.{by_turn, acts_by, acts_of, acts, takes_up, tends, tries, begins, steps_by, steps_of, step, flow_by, flow_at, flow, told_by as merger_told, merges, merge}
 use Rattle.dn_outcomes.specs.Told.{is_made_by}

@@ -1,4 +1,4 @@
-use Rattle.std.specs.Prelude.{◌≡◌, ◌+◌, ℕ, length}
+use Rattle.std.specs.Prelude.{◌≡◌, ◌+◌, length}
 use Rattle.dn_run.specs.Asked.{calls_numbered}
 use Rattle.dn_run.specs.Counts.{counts_of}
 use Rattle.dn_run.specs.Output.{unanswered_in}
