@@ -1,4 +1,4 @@
-use Rattle.std.specs.Prelude.{◌≡◌, ◌⊎◌, ◌++◌, ℕ, List, Option, Some, ◌×◌}
+use Rattle.std.specs.Prelude.{◌≡◌, ◌⊎◌, ◌++◌, ℕ, List, Option, Some}
 use Rattle.dn_io.specs.Whole.{WroteFront}
 use Rattle.dn_io.specs.declared.statuses.Status.{Status}
 use Rattle.dn_io.specs.declared.statuses.Status.TheVariants as status

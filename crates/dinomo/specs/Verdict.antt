@@ -1,4 +1,5 @@
 use Rattle.std.specs.Prelude.{◌≡◌, ℕ, ◌||◌, Bool, List, Option, Some, Result, Ok, Err, length, nat_lt, if◌then◌else◌}
+use Rattle.dn_io.specs.Rose.{Rose}
 use Rattle.dn_script.specs.declared.scripts.Mode.TheVariants as mode
 use Rattle.dn_script.specs.declared.scripts.Script.{Script}
 use Rattle.dn_script.specs.Script.{BadLine, script_of, line_count, played}
@@ -27,9 +28,16 @@ verdict_of segments bytes = if is_long bytes then Long else judged (script_of pl
 abbrev pub Deserves : ℕ → Option (List ℕ) → Verdict → Type 0
 Deserves segments left verdict = (bytes : List ℕ) → left ≡ Some bytes → verdict_of segments bytes ≡ verdict
 
--- why there is no script
-abbrev pub IsInputFault : ℕ → Option (List ℕ) → InputFault → Type 0
-IsInputFault segments left fault.Read = Unit {0}
-IsInputFault segments left fault.Long = Deserves segments left Long
-IsInputFault segments left (fault.Bad line cause) = Deserves segments left (Bad (record { line = line; cause = cause }))
-IsInputFault segments left fault.OutOfMemory = Unit {0}
+-- ---- what came of a source whose count of failed reads was `old` and is `new`
+-- it was read to a verdict, and no read failed
+pub record IsRead (segments : ℕ) (left : Option (List ℕ)) (old new : ℕ) (verdict : Verdict) : Type 0 where
+  pub told : Deserves segments left verdict
+  pub reads : new ≡ old
+
+-- or why there is no script
+abbrev pub IsInputFault : ℕ → Option (List ℕ) → ℕ → ℕ → InputFault → Type 0
+IsInputFault segments left old new fault.Read = Rose old new
+IsInputFault segments left old new fault.Long = IsRead segments left old new Long
+IsInputFault segments left old new (fault.Bad line cause) =
+    IsRead segments left old new (Bad (record { line = line; cause = cause }))
+IsInputFault segments left old new fault.OutOfMemory = new ≡ old

@@ -69,6 +69,7 @@ fn play_script<K: Sink, M: Memory>(
           new = K.written sink.new;
         })
         result }
+    ensures no_read { result ≢ Status.ReadFault }
     ensures write_fault { result ≡ Status.WriteFault
         → Rose (K.faults sink.old) (K.faults sink.new) }
     ensures no_write_fault { result ≢ Status.WriteFault
@@ -110,7 +111,7 @@ fn refuse<K: Sink>(alloc: Global, sink: &mut K, line: u64, cause: Cause) -> Stat
 }
 
 /// Plays the script of the source over the pool, and writes the output to the sink after all of it was made. A script has at
-/// most as many segments as the pool; the words behind those stay as they are.
+/// most as many segments as the pool.
 ///
 /// A source, sink or access of the pool that fails ends the play with its status. What the output is where the status is
 /// Ok is the definition `IsPlayed` of dn_whole, and in words docs/SCRIPT.md. All that a play promises is `Plays`.

@@ -1,10 +1,9 @@
 //! The script of a source, or why there is none.
 
-ghost use Rattle.std.specs.Prelude.{◌≡◌, ◌≢◌, IfOk, IfErr, OnOk, IsErrOf};
+ghost use Rattle.std.specs.Prelude.{IfOk, IfErr, OnOk};
 ghost use Rattle.std.specs.Io.KnownBytes.{IsAtEnd};
-ghost use Rattle.dn_io.specs.Rose.{Rose};
 ghost use Rattle.dn_script.specs.Fit.{IsScript};
-ghost use Rattle.dinomo.specs.Verdict.{Deserves, IsInputFault, Played};
+ghost use Rattle.dinomo.specs.Verdict.{IsRead, IsInputFault, Played};
 
 use dn_io::{ReadAllFault, Source, read_all};
 use dn_script::{Cause, Mode, ParseFault, Script, parse};
@@ -28,15 +27,12 @@ pub(crate) fn read_script<S: Source>(
     source: &mut S,
     segments: u32,
 ) -> Result<Script, InputFault>
-    ensures ok { IfOk result (λ script. Deserves segments (S.left source.old) (Played script)) }
+    ensures ok { IfOk result (λ script. IsRead segments (S.left source.old)
+        (S.faults source.old) (S.faults source.new) (Played script)) }
     ensures fits { IfOk result (λ script. IsScript segments 67108864 script) }
-    ensures fault { IfErr result (IsInputFault segments (S.left source.old)) }
+    ensures fault { IfErr result (IsInputFault segments (S.left source.old)
+        (S.faults source.old) (S.faults source.new)) }
     ensures end { OnOk result (IsAtEnd (S.left source.new)) }
-    ensures cause { IsErrOf result InputFault.Read
-        → Rose (S.faults source.old) (S.faults source.new) }
-    ensures no_fault { OnOk result (S.faults source.new ≡ S.faults source.old) }
-    ensures else_no_fault { IfErr result (λ fault. fault ≢ InputFault.Read
-        → S.faults source.new ≡ S.faults source.old) }
 {
     let bytes = match read_all(alloc, source, MAX_BYTES) {
         Ok(bytes) => bytes,

@@ -5,7 +5,7 @@ use crate::{
 };
 use dn_act::Action;
 use dn_hist::SessionView;
-use dn_word::{Position, Ref};
+use dn_word::{Gate, Position, Ref};
 use std::process::Abort;
 use std::test::Fail;
 
@@ -285,8 +285,13 @@ fn exchanges(rt: &impl Abort, brief: &Brief, row: &Row, step: Step) -> Outcome
             Then::Seal(phase) => {
                 let sealing = phase.sealing(brief);
                 assert_eq!(rt; sealing.gate, OPEN);
+                let gate = Gate {
+                    fenced: false,
+                    stamp: sealing.stamp,
+                    len: 15,
+                };
                 Outcome {
-                    new: sealing.word(15),
+                    new: gate.word(),
                     step: phase.sealed(brief, RECORD, row.found),
                 }
             }
