@@ -9,6 +9,7 @@ use Rattle.dn_play.specs.declared.players.Player.{Player}
 use Rattle.dn_play.specs.declared.stops.Stop.{Stop}
 use Rattle.dn_play.specs.declared.stops.Stop.TheVariants as stop
 use Rattle.dn_play.proofs.Stopping.{words_at}
+use Rattle.dn_run.specs.Headline.{IsHeadline}
 use Rattle.dn_run.specs.Run.{Run, run_of, after_steps}
 use Rattle.dn_run.proofs.Going.{goes, uncalled}
 use Rattle.dn_run.proofs.Asked as asking
@@ -77,6 +78,19 @@ moment_of script before words p out count h = record { words = words; opening = 
 short_of : (w : World) (lines : List Line) (words : List ℕ) (p : Player) (out : List ℕ) (r : Run) → IsAt w lines words p out r → IsShort r
 short_of w lines words p out r at = omega (arith, at.events, at.few)
 
+-- the receipts that stand at a moment, in order of position, are a history of which the headline holds, with words that hold the
+-- map of the moment's
+abbrev stands_in : Run → List Standing
+stands_in r = r.world.machine.callers.receipts
+
+heads_at : (script : Script) (before words : List ℕ) (p : Player) (out : List ℕ) (count : ℕ) (now : List ℕ) → IsOpen script before words p out
+    → ((held : Bytes) → HoldsMap (after_steps count (run_from script words p)).world.machine.words held → HoldsMap now held)
+    → IsHeadline script.lines (after_steps count (run_from script words p)) now (sorted (stands_in (after_steps count (run_from script words p))))
+heads_at script before words p out count now h map =
+    let at = at_first script before words p out h in
+    let stands : List Standing = stands_in (after_steps count (run_from script words p)) in
+    heads (first words p) script.lines count now (sorted stands) at.start at.fresh h.fit (sorted_once stands) (sorted_in_order stands) map
+
 pub plays_end : (script : Script) (before words now fin : List ℕ) (p q : Player) (out new last : List ℕ) (end : End) → IsOpen script before words p out → Reached (first words p) script.lines now q new (run_from script words p) [] → Closes now q new fin last end
     → Plays script before fin last end
 plays_end script before words now fin p q out new last end h reached closes =
@@ -108,17 +122,28 @@ plays_end script before words now fin p q out new last end h reached closes =
         drained = d.drained;
         fills = d.fills;
         full = d.full;
+        history = sorted (stands_in (after_steps reached.count (run_from script words p)));
+        headline = heads_at script before words p out reached.count fin h d.drained.map;
+        asked = asking.asked (first words p) script.lines reached.count reached.at.start reached.at.fresh h.fit (record { between = reached.followed.between; lines = reached.followed.lines });
+        adds_up = balance.adds_up (first words p) script.lines reached.count reached.at.start reached.at.fresh h.fit;
+        knows = knowledge.knows (first words p) script.lines reached.count reached.at.start reached.at.fresh (opened_unheard before words p.world script.segments script.nodes h.started.opened) h.fit;
         output = d.output;
       }
 
 pub plays_long : (script : Script) (before words now : List ℕ) (p q : Player) (out new : List ℕ) (ls : List Line) → IsOpen script before words p out → ls ≡ script.lines → Halts words p out now q new (Follow ls) stop.Long → IsLong script before now new
 plays_long script before words now p q out new ls h is halts =
-    let l = halts.is (first words p) script.lines (run_from script words p) (at_first script before words p out h) (follows_first script words p ls is) in record {
-      run = after_steps l.count (run_from script words p);
+    let l = halts.is (first words p) script.lines (run_from script words p) (at_first script before words p out h) (follows_first script words p ls is) in
+    let r : Run = after_steps l.count (run_from script words p) in
+    let left : r.world.machine.words ≡ now = words_at (first words p) script.lines now q new r l.at in
+    record {
+      run = r;
       moment = moment_of script before words p out l.count h;
       all = sym l.at.events ∙ l.all;
       more = l.more;
-      words = words_at (first words p) script.lines now q new (after_steps l.count (run_from script words p)) l.at;
+      words = left;
+      history = sorted (stands_in r);
+      headline = heads_at script before words p out l.count now h (λ held holds. subst (λ (ws : List ℕ). HoldsMap ws held) left holds);
+      knows = knowledge.knows (first words p) script.lines l.count l.at.start l.at.fresh (opened_unheard before words p.world script.segments script.nodes h.started.opened) h.fit;
       output = l.at.printed;
     }
 
@@ -132,13 +157,12 @@ leaves_moment script before words p out count now h leaves =
     let w : World = first words p in
     let r : Run = after_steps count (run_from script words p) in
     let at = at_first script before words p out h in
-    let sound : IsWorld r.world = (goes w script.lines count at.start (uncalled w at.fresh) h.fit).sound in
-    let stands : List Standing = r.world.machine.callers.receipts in record {
+    let sound : IsWorld r.world = (goes w script.lines count at.start (uncalled w at.fresh) h.fit).sound in record {
       run = r;
       moment = moment_of script before words p out count h;
       leaves = leaves;
-      history = sorted stands;
-      headline = heads w script.lines count now (sorted stands) at.start at.fresh h.fit (sorted_once stands) (sorted_in_order stands) (λ held holds. map_left_by r now held sound leaves holds);
+      history = sorted (stands_in r);
+      headline = heads_at script before words p out count now h (λ held holds. map_left_by r now held sound leaves holds);
     }
 
 pub stops_opening : (script : Script) (before now : List ℕ) (why : Stop) → StopsOpening before now why → StopsPlay script before now why

@@ -52,17 +52,21 @@ pub record IsPlayed (script : Script) (before now out : List ℕ) : Type 0 where
   pub knows : KnowsSo run
   pub output : out ≡ output_of run now history
 
--- The run has had all events that there may be, and has a next one. The output are its event lines, and the words are the run's.
+-- The run has had all events that there may be, and has a next one. The output are its event lines, and the words are the run's;
+-- the headline holds of what stands then.
 pub record IsLong (script : Script) (before now out : List ℕ) : Type 0 where
   pub run : Run
   pub moment : IsMoment script before run
   pub all : 129 + length run.past ≡ 2 ^ 22
   pub more : HasNext run
   pub words : run.world.machine.words ≡ now
+  pub history : List Standing
+  pub headline : IsHeadline script.lines run now history
+  pub knows : KnowsSo run
   pub output : out ≡ events_text run.past
 
 -- All lines are played, and a merger finds the index full: all mergers before it are done. The output are the event lines, with
--- those of calls without an answer.
+-- those of calls without an answer; the headline holds of what stands then.
 pub record IsFullAtEnd (script : Script) (before now out : List ℕ) : Type 0 where
   pub run : Run
   pub moment : IsMoment script before run
@@ -73,6 +77,11 @@ pub record IsFullAtEnd (script : Script) (before now out : List ℕ) : Type 0 wh
   pub drained : IsDrained run lane now
   pub fills : FillsIndex run.world lane counter now
   pub full : IsFull now lane counter
+  pub history : List Standing
+  pub headline : IsHeadline script.lines run now history
+  pub asked : IsAsked script.lines run.past
+  pub adds_up : AddsUp run
+  pub knows : KnowsSo run
   pub output : out ≡ all_events_text run
 
 abbrev pub Plays : Script → List ℕ → List ℕ → List ℕ → End → Type 0
