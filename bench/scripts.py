@@ -82,6 +82,15 @@ class Node:
         return 2 + sum(5 if key is None else 6 + index.set(key) for key in self.puts)
 
 
+def get_or_put(lines, node, words, key, value, last):
+    """Appends a put or a get of a session, half and half: how many actions it makes at the node, and the session's position then."""
+    if random.random() < 0.5:
+        lines.append(f"{words} put {key} ={value % 10**8}")
+        return node.put(key, last)
+    lines.append(f"{words} get {key}")
+    return node.get(key, last)
+
+
 def calls_of_one(calls, keys, seed):
     """Gets and puts of one client at one node, half and half, each run to its end."""
     random.seed(seed)
@@ -91,12 +100,7 @@ def calls_of_one(calls, keys, seed):
         if hashed(key) >> 58 not in met:
             met.add(hashed(key) >> 58)
             actions += 1
-        if random.random() < 0.5:
-            lines.append(f"c1 put {key} ={number % 10**8}")
-            made, last = node.put(key, last)
-        else:
-            lines.append(f"c1 get {key}")
-            made, last = node.get(key, last)
+        made, last = get_or_put(lines, node, "c1", key, number, last)
         actions += made
     return text(lines), actions + node.drain(Index())
 
@@ -117,14 +121,7 @@ def calls_in_turns(calls, sessions, nodes, keys, part, seed):
             if (session, slot) not in met:
                 met.add((session, slot))
                 actions += 1
-            last = lasts.get(session, (0, 0))
-            if random.random() < 0.5:
-                lines.append(f"c{session} start put {key} ={first % 10**8}")
-                made, last = node.put(key, last)
-            else:
-                lines.append(f"c{session} start get {key}")
-                made, last = node.get(key, last)
-            lasts[session] = last
+            made, lasts[session] = get_or_put(lines, node, f"c{session} start", key, first, lasts.get(session, (0, 0)))
             left[owner[slot]] = left.get(owner[slot], 0) + made
             actions += made
         while left:
