@@ -64,12 +64,18 @@ impl ValueRoom {
         self.bytes.as_slice()
     }
 
-    /// The value with the bytes that the room has. It keeps no room beyond them.
+    /// The value with the bytes that the room has. It keeps no room beyond them: they are copied to a place of their size,
+    /// so that the whole room is free for the next value, or shrunk where they are if memory for the copy is wanting.
     pub fn into_value(self) -> Value
         ensures { result ≡ self }
     {
         let ValueRoom { mut bytes } = self;
-        bytes.shrink_to_fit();
-        Value::of(bytes)
+        match bytes.clone() {
+            Ok(exact) => Value::of(exact),
+            Err(_) => {
+                bytes.shrink_to_fit();
+                Value::of(bytes)
+            }
+        }
     }
 }
