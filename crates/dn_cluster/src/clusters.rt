@@ -5,7 +5,7 @@ ghost use Rattle.dn_hist.specs.Calls.{key_of};
 ghost use Rattle.dn_callers.specs.Sessions.{IsSession};
 ghost use Rattle.dn_tend.specs.Fit.{FitsTask};
 ghost use Rattle.dn_monitor.specs.Monitor.{Monitoring, monitor_turn, IsOrder};
-ghost use Rattle.dn_monitor.specs.Heirs.{AreHeirs};
+ghost use Rattle.dn_monitor.specs.Heirs.{AreHeirs, no_heirs};
 ghost use Rattle.dn_route.specs.SessionState.{view_of, refreshed};
 ghost use Rattle.dn_lane.specs.CallCauses.{CallCause};
 ghost use Rattle.dn_lane.specs.State.{LaneState, halted};
@@ -518,6 +518,8 @@ impl Cluster {
         ensures given { IsSome self.new.monitor }
         ensures heirs { (lane : ℕ) (x : Monitoring) → order ≡ Order.Takeover lane
             → self.new.monitor ≡ Some x → AreHeirs live.now x.heirs }
+        ensures nobody { (x : Monitoring) → ((lane : ℕ) → order ≡ Order.Takeover lane → ⊥)
+            → self.new.monitor ≡ Some x → x.heirs ≡ no_heirs }
         ensures segments { self.new.segments ≡ self.old.segments }
         ensures lanes { length self.new.nodes ≡ length self.old.nodes }
     {

@@ -1,7 +1,7 @@
 ghost use Rattle.std.specs.Prelude.{◌≡◌, ◌≢◌, ◌<◌, ◌≤◌, ◌+◌, ◌^◌, ◌↔◌, ℕ, Option, Some, IsNone, IsTrue, All};
 ghost use Rattle.std.specs.List.Sorted.{IsStrictlyIncreasing};
 ghost use Rattle.dn_monitor.specs.Monitor.{first_place, begun, monitor_next, monitor_turn, monitor_after, is_last, slot_in, heir_of, IsOrder, IsErrand};
-ghost use Rattle.dn_monitor.specs.Heirs.{AreHeirs};
+ghost use Rattle.dn_monitor.specs.Heirs.{AreHeirs, no_heirs};
 ghost use Rattle.dn_monitor.specs.Words.{IsOfMonitor};
 ghost use Rattle.dn_monitor.specs.Causes.{IsFormatted, IsLooked, IsGranted, IsBarred, IsTaken, IsHeld, IsWaiting, IsNotFenced, IsWorn, IsToGrant};
 ghost use Rattle.dn_monitor.specs.declared.orders.MonitorTurn.TheVariants.{Answered};
@@ -104,7 +104,8 @@ fn begin(order: Order) -> MonitorPlace
 fn heirs(order: Order, live: &[u8]) -> [u8; SLOTS]
     requires rising { IsStrictlyIncreasing live.now }
     requires lanes { All (λ lane. (1 ≤ lane) × (lane < 64)) live.now }
-    ensures { (lane : ℕ) → order ≡ Order.Takeover lane → AreHeirs live.now result }
+    ensures owners { (lane : ℕ) → order ≡ Order.Takeover lane → AreHeirs live.now result }
+    ensures nobody { ((lane : ℕ) → order ≡ Order.Takeover lane → ⊥) → result ≡ no_heirs }
 {
     match order {
         Order::Takeover { .. } => assign(live),
@@ -125,6 +126,8 @@ impl Monitor {
         ensures value { result ≡ begun order result.heirs }
         ensures heirs { (lane : ℕ) → order ≡ Order.Takeover lane
             → AreHeirs live.now result.heirs }
+        ensures nobody { ((lane : ℕ) → order ≡ Order.Takeover lane → ⊥)
+            → result.heirs ≡ no_heirs }
         ensures sequence { CarriesOut result (sequence result.heirs order) }
     {
         Monitor {
