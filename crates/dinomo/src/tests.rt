@@ -34,7 +34,7 @@ map 1
 ";
 
 /// Scripts, and how their outputs begin and end.
-const ROWS: [(&str, &str, &str); 10] = [
+const ROWS: [(&str, &str, &str); 13] = [
     (
         "c1 put 5 =a\nc1 put 5 =b\nc1 put 5 =c\nmerge 1 10\nc1 get 5\n",
         "c1 1 stored 1.0.1\nc1 2 stored 2.0.1\nc1 3 stored 3.0.1\nc1 4 =c 3.1.1\nhistory 4\n",
@@ -90,6 +90,22 @@ const ROWS: [(&str, &str, &str); 10] = [
         "step 2\nadd\nmerge 2 3\nflow 3 0\n",
         "nolane 2\nlane 2\nnolane 3\nhistory 0\n",
         "lane 2 live stamp 0 len 0 mark 0\ncalls 0 made 0 refused 0 unanswered 0 given 0\nways value 0 shortcut 0 pending 0 index 0 cell 0\nmap 0\n",
+    ),
+    // a node forgets its merged records, or keeps them
+    (
+        "c1 put 5 =a\nmerge 1 12\ntrim 1\nc1 get 5\n",
+        "c1 1 stored 1.0.1\nc1 2 =a 1.1.1\nhistory 2\n",
+        "lane 1 live stamp 1 len 3 mark 3\ncalls 2 made 2 refused 0 unanswered 0 given 0\nways value 0 shortcut 0 pending 0 index 1 cell 0\nmap 1\n",
+    ),
+    (
+        "c1 put 5 =a\nmerge 1 12\nc1 get 5\n",
+        "c1 1 stored 1.0.1\nc1 2 =a 1.1.1\nhistory 2\n",
+        "lane 1 live stamp 1 len 3 mark 3\ncalls 2 made 2 refused 0 unanswered 0 given 0\nways value 0 shortcut 0 pending 1 index 0 cell 0\nmap 1\n",
+    ),
+    (
+        "c1 put 5 =a\nmerge 1 2\ntrim 1\ntrim 2\nc1 get 5\n",
+        "c1 1 stored 1.0.1\nnolane 2\nc1 2 =a 1.1.1\nhistory 2\n",
+        "lane 1 live stamp 1 len 3 mark 3\ncalls 2 made 2 refused 0 unanswered 0 given 0\nways value 0 shortcut 0 pending 1 index 0 cell 0\nmap 1\n",
     ),
 ];
 

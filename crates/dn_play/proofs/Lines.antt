@@ -115,6 +115,7 @@ pub record IsUnplayed (l : Line) : Type 0 where
   pub flow : (n index : ℕ) → l ≡ line.Flow n index → ⊥
   pub add : l ≡ line.Add → ⊥
   pub tell : (s t : ℕ) → l ≡ line.Tell s t → ⊥
+  pub trim : (n : ℕ) → l ≡ line.Trim n → ⊥
 
 unplayed : (l : Line) → IsUnplayed l → doing_of l ≡ Rest
 unplayed (line.Call s lane only call) h = absurd (h.call s lane only call refl)
@@ -133,7 +134,7 @@ unplayed (line.Fuse n actions) h = refl
 unplayed (line.Fail n) h = refl
 unplayed (line.Share key) h = refl
 unplayed (line.Unshare key) h = refl
-unplayed (line.Trim n) h = refl
+unplayed (line.Trim n) h = absurd (h.trim n refl)
 unplayed (line.Tell s t) h = absurd (h.tell s t refl)
 unplayed (line.Mix seed turns) h = refl
 unplayed (line.Policy hot cold high low) h = refl

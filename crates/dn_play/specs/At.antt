@@ -5,7 +5,8 @@ use Rattle.dn_outcomes.specs.Sound.{IsWorld, MayHappen}
 use Rattle.dn_outcomes.specs.State.{World}
 use Rattle.dn_outcomes.specs.declared.events.Event.{Event}
 use Rattle.dn_outcomes.specs.Told.{is_made_by}
-use Rattle.dn_outcomes.specs.declared.events.Event.TheVariants.{Give, Step, Merge, Flow, Add, Tell, Refresh}
+use Rattle.dn_outcomes.specs.declared.events.Event.TheVariants.{Give, Queue, Step, Merge, Flow, Add, Tell, Refresh}
+use Rattle.dn_tend.specs.declared.tasks.Task.TheVariants.{Trim}
 use Rattle.dn_outcomes.specs.declared.outcomes.Outcome.TheVariants.{Acted, Numbered, Answered, GivenUp}
 use Rattle.dn_outcomes.specs.declared.outcomes.Outcome.{Outcome}
 use Rattle.dn_script.specs.Fit.{IsLine}
@@ -199,6 +200,7 @@ event_by (action.Merge n) = Merge n
 event_by (action.Flow n index) = Flow n index
 event_by action.Add = Add
 event_by (action.Tell s t) = Tell s t
+event_by (action.Trim n) = Queue n Trim
 
 -- ---- no deed is to be loaded, and this is left to do
 pub record IsBefore (r : Run) (d : Doing) : Type 0 where

@@ -18,9 +18,9 @@ ghost use Rattle.dn_world.specs.Comes.{has_failed};
 ghost use Rattle.dn_play.specs.At.{IsAt, IsCounted, CanGo, Goes, Halts, IsMoved, IsMovedBy, IsToSession, Awaits, Repeats, Finishes, Ends, event_by, doing_in, left_by, CanLoad, Stops, CountsStop, CanGive, Gives, StopsEvent, place_of, loads_by, refused_by, Undone, runs_on, Follow, Reaches, IsStarted, StopsOpening};
 ghost use Rattle.dn_play.specs.Tally.{HasRoom, added};
 
-use crate::printing::{
-    print, print_add, print_given, print_lane, print_load, print_nothing, print_start,
-};
+mod actions;
+
+use crate::printing::{print, print_given, print_load, print_start};
 use crate::stops::Stop;
 use crate::tallies::{is_made, nothing, tally};
 use dn_act::Memory;
@@ -53,6 +53,8 @@ pub enum Action {
     Add,
     /// A session is told another one's last position.
     Tell { from: u32, to: u32 },
+    /// A lane is asked to forget its pending records below the merged mark.
+    Trim { lane: u8 },
 }
 
 /// A world, what was counted of its events, and how many there were, those of the opening among them.
@@ -415,108 +417,6 @@ impl Player {
         }
     }
 
-    /// The merger of a lane makes its next action.
-    fn merge<M: Memory>(
-        &mut self,
-        mem: &mut M,
-        out: &mut Vec<u8>,
-        lane: u8,
-    ) -> Result<Outcome, Stop>
-        requires can { CanGo (M.words mem.old) self.old out.old.items
-            (Awaits (happens.Merge lane)) }
-        ensures goes { IfOk result (λ o. Goes (M.words mem.old) self.old out.old.items
-            (M.words mem.new) self.new out.new.items (Awaits (happens.Merge lane)) (left_by o)) }
-        ensures halts { IfErr result (Halts (M.words mem.old) self.old out.old.items
-            (M.words mem.new) self.new out.new.items (Awaits (happens.Merge lane))) }
-        ensures count { OnOk result (M.faults mem.new ≡ M.faults mem.old) }
-        ensures faults { IfErr result (CountsStop (M.faults mem.old) (M.faults mem.new)) }
-    {
-        let outcome = match self.event(mem, Event::Merge { lane }) {
-            Ok(outcome) => outcome,
-            Err(stop) => return Err(stop),
-        };
-        match print_lane(out, lane, outcome) {
-            Ok(()) => Ok(outcome),
-            Err(stop) => Err(stop),
-        }
-    }
-
-    /// A staged word of a lane flows.
-    fn flow<M: Memory>(
-        &mut self,
-        mem: &mut M,
-        out: &mut Vec<u8>,
-        lane: u8,
-        index: u32,
-    ) -> Result<Outcome, Stop>
-        requires can { CanGo (M.words mem.old) self.old out.old.items
-            (Awaits (happens.Flow lane index)) }
-        ensures goes { IfOk result (λ o. Goes (M.words mem.old) self.old out.old.items
-            (M.words mem.new) self.new out.new.items (Awaits (happens.Flow lane index))
-            (left_by o)) }
-        ensures halts { IfErr result (Halts (M.words mem.old) self.old out.old.items
-            (M.words mem.new) self.new out.new.items (Awaits (happens.Flow lane index))) }
-        ensures count { OnOk result (M.faults mem.new ≡ M.faults mem.old) }
-        ensures faults { IfErr result (CountsStop (M.faults mem.old) (M.faults mem.new)) }
-    {
-        let outcome = match self.event(mem, Event::Flow { lane, index }) {
-            Ok(outcome) => outcome,
-            Err(stop) => return Err(stop),
-        };
-        match print_lane(out, lane, outcome) {
-            Ok(()) => Ok(outcome),
-            Err(stop) => Err(stop),
-        }
-    }
-
-    /// A lane is added.
-    fn add<M: Memory>(&mut self, mem: &mut M, out: &mut Vec<u8>) -> Result<Outcome, Stop>
-        requires can { CanGo (M.words mem.old) self.old out.old.items
-            (Awaits (happens.Add)) }
-        ensures goes { IfOk result (λ o. Goes (M.words mem.old) self.old out.old.items
-            (M.words mem.new) self.new out.new.items (Awaits (happens.Add)) (left_by o)) }
-        ensures halts { IfErr result (Halts (M.words mem.old) self.old out.old.items
-            (M.words mem.new) self.new out.new.items (Awaits (happens.Add))) }
-        ensures count { OnOk result (M.faults mem.new ≡ M.faults mem.old) }
-        ensures faults { IfErr result (CountsStop (M.faults mem.old) (M.faults mem.new)) }
-    {
-        let outcome = match self.event(mem, Event::Add) {
-            Ok(outcome) => outcome,
-            Err(stop) => return Err(stop),
-        };
-        match print_add(out, outcome) {
-            Ok(()) => Ok(outcome),
-            Err(stop) => Err(stop),
-        }
-    }
-
-    /// A session is told another one's last position.
-    fn tell<M: Memory>(
-        &mut self,
-        mem: &mut M,
-        out: &mut Vec<u8>,
-        from: u32,
-        to: u32,
-    ) -> Result<Outcome, Stop>
-        requires can { CanGo (M.words mem.old) self.old out.old.items
-            (Awaits (happens.Tell from to)) }
-        ensures goes { IfOk result (λ o. Goes (M.words mem.old) self.old out.old.items
-            (M.words mem.new) self.new out.new.items (Awaits (happens.Tell from to)) (left_by o)) }
-        ensures halts { IfErr result (Halts (M.words mem.old) self.old out.old.items
-            (M.words mem.new) self.new out.new.items (Awaits (happens.Tell from to))) }
-        ensures count { OnOk result (M.faults mem.new ≡ M.faults mem.old) }
-        ensures faults { IfErr result (CountsStop (M.faults mem.old) (M.faults mem.new)) }
-    {
-        let outcome = match self.event(mem, Event::Tell { from, to }) {
-            Ok(outcome) => outcome,
-            Err(stop) => return Err(stop),
-        };
-        match print_nothing(out) {
-            Ok(()) => Ok(outcome),
-            Err(stop) => Err(stop),
-        }
-    }
-
     /// A session starts a call, and loads its deed where it knows no route.
     fn start<M: Memory>(
         &mut self,
@@ -579,6 +479,7 @@ impl Player {
             Action::Flow { lane, index } => self.flow(mem, out, lane, index),
             Action::Add => self.add(mem, out),
             Action::Tell { from, to } => self.tell(mem, out, from, to),
+            Action::Trim { lane } => self.trim(mem, out, lane),
         }
     }
 
@@ -757,6 +658,7 @@ impl Player {
             Line::Flow { lane, index } => self.repeat(mem, out, Action::Flow { lane, index }, 1),
             Line::Add => self.repeat(mem, out, Action::Add, 1),
             Line::Tell { from, to } => self.repeat(mem, out, Action::Tell { from, to }, 1),
+            Line::Trim { lane } => self.repeat(mem, out, Action::Trim { lane }, 1),
             _ => Ok(()),
         }
     }

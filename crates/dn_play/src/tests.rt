@@ -8,7 +8,7 @@ use std::process::Abort;
 use std::test::Fail;
 
 /// The verbs of the lines that are played.
-const VERBS: [Verb; 13] = [
+const VERBS: [Verb; 14] = [
     Verb::Pool,
     Verb::Nodes,
     Verb::Get,
@@ -22,6 +22,7 @@ const VERBS: [Verb; 13] = [
     Verb::Merge,
     Verb::Add,
     Verb::Tell,
+    Verb::Trim,
 ];
 
 /// Plays a script over a fresh pool, and compares what is printed of its events.

@@ -6,6 +6,7 @@
 
 mod call_lines;
 mod history_lines;
+mod order_lines;
 mod pieces;
 mod refusal_lines;
 mod summary_lines;
@@ -14,5 +15,6 @@ mod tests;
 
 pub use call_lines::{EventLine, event, made};
 pub use history_lines::{history_head, history_line};
+pub use order_lines::{MoveAnswer, balanced, monitor_busy, moved};
 pub use refusal_lines::{bad_line, bad_words};
 pub use summary_lines::{LaneState, calls_line, lane_line, map_line, ways_line};

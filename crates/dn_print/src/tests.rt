@@ -181,3 +181,25 @@ fn refusals(rt: HostRuntime) -> Result<(), Fail> {
     assert_eq!(rt; out.as_slice(), b"line 3: verb\nbad words\n".as_slice());
     Ok(())
 }
+
+#[test]
+fn orders_of_the_monitor(rt: HostRuntime) -> Result<(), Fail> {
+    let alloc = rt.alloc();
+    let mut out = Vec::new(alloc);
+    let (key, lane) = (18_446_744_073_709_551_615, 63);
+    let deed = 0x4000_0101_0000_0002;
+    for answer in [
+        MoveAnswer::Granted { deed },
+        MoveAnswer::Held { deed },
+        MoveAnswer::Waiting { mark: 3, need: 12 },
+        MoveAnswer::Worn { epoch: 8_388_607 },
+    ] {
+        done(moved(&mut out, key, lane, answer))?;
+    }
+    done(monitor_busy(&mut out))?;
+    done(balanced(&mut out, 64))?;
+    let lines =
+        "move 18446744073709551615 63 granted 4000010100000002\nmove 18446744073709551615 63 held 4000010100000002\nmove 18446744073709551615 63 waiting 3 12\nmove 18446744073709551615 63 worn 8388607\nmonitor busy\nbalance 64\n";
+    assert_eq!(rt; out.as_slice(), lines.as_bytes());
+    Ok(())
+}

@@ -106,7 +106,7 @@ line_doing (line.Fuse lane actions) h = tt
 line_doing (line.Fail lane) h = tt
 line_doing (line.Share key) h = tt
 line_doing (line.Unshare key) h = tt
-line_doing (line.Trim lane) h = tt
+line_doing (line.Trim lane) h = (λ w. tt, refl)
 line_doing (line.Tell s t) h = (λ w. (record { least = h.0.least_of; most = h.0.most_of }, record { least = h.1.least_of; most = h.1.most_of }), refl)
 line_doing (line.Mix seed turns) h = tt
 line_doing (line.Policy hot cold high low) h = tt

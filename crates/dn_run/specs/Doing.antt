@@ -7,6 +7,7 @@ use Rattle.dn_outcomes.specs.declared.outcomes.Outcome.{Outcome}
 use Rattle.dn_outcomes.specs.declared.outcomes.Outcome.TheVariants.{Nothing, Numbered, NoLane}
 use Rattle.dn_script.specs.declared.scripts.Line.{Line}
 use Rattle.dn_script.specs.declared.scripts.Line.TheVariants as line
+use Rattle.dn_tend.specs.declared.tasks.Task.TheVariants.{Trim}
 use Rattle.dn_waiting.specs.State.{call_of}
 use Rattle.dn_waiting.specs.declared.calls.OpenCall.{OpenCall}
 use Rattle.dn_waiting.specs.declared.calls.Place.{Place}
@@ -33,6 +34,7 @@ doing_of (line.Flow n index) = Repeat (event.Flow n index) 1
 doing_of (line.Merge n count) = Repeat (event.Merge n) count
 doing_of line.Add = Repeat event.Add 1
 doing_of (line.Tell s t) = Repeat (event.Tell s t) 1
+doing_of (line.Trim n) = Repeat (event.Queue n Trim) 1
 doing_of unplayed = Rest
 
 -- ---- the event that comes next

@@ -2,7 +2,7 @@ use Rattle.std.specs.Prelude.{ℕ, ◌++◌, Bool, true, false, List, [], Option
 use Rattle.std.specs.List.{flat_map}
 use Rattle.dn_hist.specs.declared.receipts.Receipt.{Receipt}
 use Rattle.dn_outcomes.specs.declared.events.Event.{Event}
-use Rattle.dn_outcomes.specs.declared.events.Event.TheVariants.{Start, Step, Flow, Merge, Refresh, Add}
+use Rattle.dn_outcomes.specs.declared.events.Event.TheVariants.{Start, Step, Flow, Merge, Refresh, Queue, Add}
 use Rattle.dn_outcomes.specs.declared.outcomes.CallAnswer.{CallAnswer}
 use Rattle.dn_outcomes.specs.declared.outcomes.CallAnswer.TheVariants as answer
 use Rattle.dn_outcomes.specs.declared.outcomes.Outcome.{Outcome}
@@ -48,7 +48,7 @@ step_text n receipt (outcome.Answered s number answer given) = answer_text s num
 step_text n receipt outcome.NoLane = event_text (line.NoLane n)
 step_text n receipt other = []
 
--- a staged word of a lane flows, or its merger makes an action
+-- a staged word of a lane flows, its merger makes an action, or a task is queued there
 abbrev pub no_lane_text : ℕ → Outcome → List ℕ
 no_lane_text n outcome.NoLane = event_text (line.NoLane n)
 no_lane_text n other = []
@@ -70,6 +70,7 @@ text_of (Step n) receipt o = step_text n receipt o
 text_of (Flow n index) receipt o = no_lane_text n o
 text_of (Merge n) receipt o = no_lane_text n o
 text_of (Refresh s) receipt o = load_text o
+text_of (Queue n task) receipt o = no_lane_text n o
 text_of Add receipt o = add_text o
 text_of other receipt o = []
 

@@ -251,7 +251,10 @@ fn what_is_played(rt: HostRuntime) -> Result<(), Fail> {
             "pool 5\nnodes 2\nc1 put 5 %6162\n;\n\nc1000 @2 start del 5\n",
             None,
         ),
-        ("step 1 2\nflow 1 0\nmerge 2\nadd\ntell 1 2\n", None),
+        (
+            "step 1 2\nflow 1 0\nmerge 2\nadd\ntell 1 2\ntrim 63\n",
+            None,
+        ),
         ("cache 5\n", Some((1, Cause::Verb))),
         ("monitor\n", Some((1, Cause::Verb))),
         ("start move 5 1\n", Some((1, Cause::Verb))),

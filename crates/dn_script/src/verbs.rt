@@ -36,7 +36,7 @@ pub enum Verb {
 }
 
 /// What is played so far.
-pub const PLAYED: [Verb; 13] = [
+pub const PLAYED: [Verb; 14] = [
     Verb::Pool,
     Verb::Nodes,
     Verb::Get,
@@ -50,6 +50,7 @@ pub const PLAYED: [Verb; 13] = [
     Verb::Merge,
     Verb::Add,
     Verb::Tell,
+    Verb::Trim,
 ];
 
 impl Verb {

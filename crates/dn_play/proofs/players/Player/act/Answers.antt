@@ -57,3 +57,14 @@ returns-in-Tell-clause-halts g c =
 
 pub tell-requires : goal.tell-requires
 tell-requires g c = record { can = subst (λ (x : Action). CanGo (g.M.Memory.words c.args.mem.now) c.args.self.now c.args.out.now.items (Awaits (event_by x))) c.in-Tell.is c.requires.can }
+
+pub returns-in-Trim-clause-goes : goal.returns-in-Trim-clause-goes
+returns-in-Trim-clause-goes g c =
+    subst (λ (x : Action). IfOk c.trim.result (λ o. Goes (g.M.Memory.words c.args.mem.now) c.args.self.now c.args.out.now.items (g.M.Memory.words c.trim.new.mem) c.trim.new.self c.trim.new.out.items (Awaits (event_by x)) (left_by o))) (sym c.in-Trim.is) c.trim.ensures.goes
+
+pub returns-in-Trim-clause-halts : goal.returns-in-Trim-clause-halts
+returns-in-Trim-clause-halts g c =
+    subst (λ (x : Action). IfErr c.trim.result (Halts (g.M.Memory.words c.args.mem.now) c.args.self.now c.args.out.now.items (g.M.Memory.words c.trim.new.mem) c.trim.new.self c.trim.new.out.items (Awaits (event_by x)))) (sym c.in-Trim.is) c.trim.ensures.halts
+
+pub trim-requires : goal.trim-requires
+trim-requires g c = record { can = subst (λ (x : Action). CanGo (g.M.Memory.words c.args.mem.now) c.args.self.now c.args.out.now.items (Awaits (event_by x))) c.in-Trim.is c.requires.can }

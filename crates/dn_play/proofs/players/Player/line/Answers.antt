@@ -71,6 +71,17 @@ pub returns-in-Tell-clause-halts : goal.returns-in-Tell-clause-halts
 returns-in-Tell-clause-halts g c =
     subst (λ (x : Line). IfErr c.repeat-in-Tell.result (Halts (g.M.Memory.words c.args.mem.now) c.args.self.now c.args.out.now.items (g.M.Memory.words c.repeat-in-Tell.new.mem) c.repeat-in-Tell.new.self c.repeat-in-Tell.new.out.items (Undone (doing_of x)))) (sym c.in-Tell.is) c.repeat-in-Tell.ensures.halts
 
+pub repeat-requires-in-Trim : goal.repeat-requires-in-Trim
+repeat-requires-in-Trim g c = record { can = subst (λ (x : Line). CanGo (g.M.Memory.words c.args.mem.now) c.args.self.now c.args.out.now.items (Undone (doing_of x))) c.in-Trim.is c.requires.can }
+
+pub returns-in-Trim-clause-ends : goal.returns-in-Trim-clause-ends
+returns-in-Trim-clause-ends g c =
+    subst (λ (x : Line). OnOk c.repeat-in-Trim.result (Ends (g.M.Memory.words c.args.mem.now) c.args.self.now c.args.out.now.items (g.M.Memory.words c.repeat-in-Trim.new.mem) c.repeat-in-Trim.new.self c.repeat-in-Trim.new.out.items (Undone (doing_of x)))) (sym c.in-Trim.is) c.repeat-in-Trim.ensures.ends
+
+pub returns-in-Trim-clause-halts : goal.returns-in-Trim-clause-halts
+returns-in-Trim-clause-halts g c =
+    subst (λ (x : Line). IfErr c.repeat-in-Trim.result (Halts (g.M.Memory.words c.args.mem.now) c.args.self.now c.args.out.now.items (g.M.Memory.words c.repeat-in-Trim.new.mem) c.repeat-in-Trim.new.self c.repeat-in-Trim.new.out.items (Undone (doing_of x)))) (sym c.in-Trim.is) c.repeat-in-Trim.ensures.halts
+
 pub returns-in_default-clause-ends : goal.returns-in_default-clause-ends
 returns-in_default-clause-ends g c = record {
   is = λ w lines r at may.
@@ -81,5 +92,6 @@ returns-in_default-clause-ends g c = record {
         flow = c.in_default.not-Flow;
         add = c.in_default.not-Add;
         tell = c.in_default.not-Tell;
+        trim = c.in_default.not-Trim;
       }) at may;
 }
