@@ -4,7 +4,7 @@ use Rattle.dn_hist.specs.declared.receipts.Receipt.{Receipt}
 use Rattle.dn_hist.specs.declared.receipts.SessionView.{SessionView}
 use Rattle.dn_merge.specs.Merge.{Merging}
 use Rattle.dn_model.specs.Regions.{IsLane}
-use Rattle.dn_monitor.specs.Heirs.{AreHeirs}
+use Rattle.dn_monitor.specs.Heirs.{AreHeirs, no_heirs}
 use Rattle.dn_monitor.specs.Monitor.{IsOrder}
 use Rattle.dn_monitor.specs.declared.orders.Order.{Order}
 use Rattle.dn_monitor.specs.declared.orders.Order.TheVariants as order
@@ -133,9 +133,9 @@ pub record IsWorld (w : World) : Type 0 where
 -- ---- when an event may be given
 abbrev pub IsTake : List ℕ → Order → List ℕ → Type 0
 IsTake live (order.Format segments) heirs = ⊥
-IsTake live (order.Look slot) heirs = Unit {0}
-IsTake live (order.Move slot to) heirs = Unit {0}
-IsTake live (order.Fence lane) heirs = Unit {0}
+IsTake live (order.Look slot) heirs = heirs ≡ no_heirs
+IsTake live (order.Move slot to) heirs = heirs ≡ no_heirs
+IsTake live (order.Fence lane) heirs = heirs ≡ no_heirs
 IsTake live (order.Takeover lane) heirs = AreHeirs live heirs
 
 -- where the order isn't refused

@@ -1,7 +1,7 @@
 use Rattle.std.proofs.Common.{ℕ, ◌≡◌, ◌≤◌, ◌<◌, ◌+◌, ◌++◌, ◌∷◌, [], nat_lt, length, Bool, true, false, List, Option, Some, None, Bor, All, refl, sym, ◌∙◌, ap, arith}
 use Rattle.std.specs.Option.{is_some, option_copied}
 use Rattle.std.specs.Prelude.{IsSome}
-use Rattle.dn_monitor.specs.Heirs.{AreHeirs}
+use Rattle.dn_monitor.specs.Heirs.{AreHeirs, no_heirs}
 use Rattle.dn_monitor.specs.Monitor.{Monitoring}
 use Rattle.dn_monitor.specs.declared.orders.Order.{Order}
 use Rattle.dn_monitor.specs.declared.orders.Order.TheVariants as order
@@ -55,12 +55,13 @@ pub some_now : (o : Option Monitoring) → IsSome o → (x : Monitoring) × (o �
 some_now None e = absurd (cc e)
 some_now (Some x) e = (x, refl)
 
-pub is_take : (live : List ℕ) (o : Order) (heirs : List ℕ) → ((segments : ℕ) → o ≡ order.Format segments → ⊥) → ((lane : ℕ) → o ≡ order.Takeover lane → AreHeirs live heirs) → IsTake live o heirs
-is_take live (order.Format segments) heirs h k = h segments refl
-is_take live (order.Look slot) heirs h k = tt
-is_take live (order.Move slot to) heirs h k = tt
-is_take live (order.Fence lane) heirs h k = tt
-is_take live (order.Takeover lane) heirs h k = k lane refl
+pub is_take : (live : List ℕ) (o : Order) (heirs : List ℕ) → ((segments : ℕ) → o ≡ order.Format segments → ⊥) → ((lane : ℕ) → o ≡ order.Takeover lane → AreHeirs live heirs)
+    → (((lane : ℕ) → o ≡ order.Takeover lane → ⊥) → heirs ≡ no_heirs) → IsTake live o heirs
+is_take live (order.Format segments) heirs h k none = h segments refl
+is_take live (order.Look slot) heirs h k none = none (λ lane e. absurd (cc e))
+is_take live (order.Move slot to) heirs h k none = none (λ lane e. absurd (cc e))
+is_take live (order.Fence at) heirs h k none = none (λ lane e. absurd (cc e))
+is_take live (order.Takeover lane) heirs h k none = k lane refl
 
 pub live_lanes : (made : ℕ) (live : List ℕ) → made ≤ 63 → AreLive made live → All (λ (n : ℕ). (1 ≤ n) × (n < 64)) live
 live_lanes made live most h k d lt = (let both = h.lanes k d lt in (both.0, omega (arith, both.1, most)))

@@ -14,6 +14,7 @@ use Rattle.std.proofs.lemmas.List.Elements.{All-contains}
 use Rattle.std.proofs.lemmas.Map.Views.{list_any-from_Contains}
 use Rattle.dn_world.proofs.Changes.{where_false}
 use Rattle.dn_monitor.specs.Grant.{granted_word}
+use Rattle.dn_monitor.specs.Heirs.{no_heirs}
 use Rattle.dn_monitor.specs.Monitor.{Monitoring, begun, monitor_next, monitor_turn, monitor_after}
 use Rattle.dn_monitor.specs.declared.orders.Order.TheVariants.{Move}
 use Rattle.dn_monitor.specs.declared.places.Errand.TheVariants.{Move as Moves_to}
@@ -91,7 +92,7 @@ leads_to words x now y f v h sound e none =
 
 pub given_on : (words : List ℕ) (x y : CrewState) (o : Outcome) (slot lane : ℕ) → slot < 64 → 0 < lane → lane < 64 → IsGivenBy words x y o (Move slot lane) → MayGoOn words x → MayGoOn words y
 given_on words x y o slot lane lt pos low h can = may_lead words x words y (λ w. give w (Move slot lane) h.heirs) (moves_lead words x words y o (λ w. give w (Move slot lane) h.heirs) h.is)
-    (λ w sound. give_kept w (Move slot lane) h.heirs sound (lt, pos, low) (λ may none. tt)) can
+    (λ w sound. give_kept w (Move slot lane) h.heirs sound (lt, pos, low) (λ may none. h.nobody (λ n e. absurd (cc e)))) can
 
 pub record IsGranting (words : List ℕ) (x y : CrewState) (o : Outcome) (then_words : List ℕ) (z : CrewState) (now : List ℕ) (v : CrewState) (slot lane : ℕ) : Type 0 where
   pub low : slot < 64
@@ -112,7 +113,7 @@ granted_so words x y o then_words z now v slot lane h may =
     let first : world_of words y [] [] ≡ with_order w (Some (begun (Move slot lane) heirs)) =
     leads_to words x words y order _ (moves_lead words x words y o order h.gives.is) may.sound gave refl in
     let sound_first : IsWorld (world_of words y [] []) =
-    subst IsWorld (gave ∙ sym first) (give_kept w (Move slot lane) heirs may.sound (h.low, h.some, h.most) (λ can none. tt)) in
+    subst IsWorld (gave ∙ sym first) (give_kept w (Move slot lane) heirs may.sound (h.low, h.some, h.most) (λ can none. h.gives.nobody (λ n e. absurd (cc e)))) in
     let looked : (monitor (world_of words y [] [])).world ≡ with_order w (Some (granting heirs slot lane)) =
     ap (λ (u : World). (monitor u).world) first ∙ looks w slot lane heirs may.deed in
     let second : world_of then_words z [] [] ≡ with_order w (Some (granting heirs slot lane)) =
@@ -173,8 +174,8 @@ after_both w (e ∷ es) fs = after_both (does w e.0 e.1).world es fs
 grants_one : (w : World) (slot lane : ℕ) → w.machine.monitor ≡ None → is_live w lane ≡ true → 0 < lane → word_at w.machine.words (deed_at slot) ≡ 0
     → after w (grants slot lane) ≡ with_words w (granted_to w.machine.words slot lane)
 grants_one w slot lane none live pos deed =
-    ap (λ (d : Done). (monitor (monitor d.world).world).world) (given w (Move slot lane) [] live (ap (is_some {T = Monitoring}) none))
-    ∙ ap (λ (u : World). (monitor u).world) (looks w slot lane [] deed) ∙ exchanges w slot lane [] pos deed
+    ap (λ (d : Done). (monitor (monitor d.world).world).world) (given w (Move slot lane) no_heirs live (ap (is_some {T = Monitoring}) none))
+    ∙ ap (λ (u : World). (monitor u).world) (looks w slot lane no_heirs deed) ∙ exchanges w slot lane no_heirs pos deed
     ∙ ap (λ (m : Option Monitoring). with_order (with_words w (granted_to w.machine.words slot lane)) m) (sym none)
 
 pub grants_all : (w : World) (owners : ℕ → ℕ) (n : ℕ) → n ≤ 64 → w.machine.monitor ≡ None → ((t : ℕ) → t < 64 → (is_live w (owners t) ≡ true) × (0 < owners t) × (word_at w.machine.words (deed_at t) ≡ 0))

@@ -155,7 +155,7 @@ grants_run : (w : World) (owners : ℕ → ℕ) (n : ℕ) → n ≤ 64 → ((t :
 grants_run w owners zero le each = tt
 grants_run w owners (suc n) le each =
     let at = each n (omega (arith, le)) in
-    run_both w (grants_to owners n) (grants n (owners n)) (grants_run w owners n (omega (arith, le)) each) (((omega (arith, le), at.0, at.1), λ may none. tt), (tt, (tt, tt)))
+    run_both w (grants_to owners n) (grants n (owners n)) (grants_run w owners n (omega (arith, le)) each) (((omega (arith, le), at.0, at.1), λ may none. refl), (tt, (tt, tt)))
 
 -- ---- all
 pub opened_so : (segments n : ℕ) (words mid : List ℕ) (x y : CrewState) (now : List ℕ) (z : CrewState) → IsReady segments n words mid x y → AreGranted mid y now z

@@ -12,6 +12,7 @@ use Rattle.dn_lane.specs.declared.modes.Mode.TheVariants.{Idle}
 use Rattle.dn_machine.specs.Events.{Fails, Monitor as ByMonitor}
 use Rattle.dn_machine.specs.Sound.{IsSound}
 use Rattle.dn_model.specs.Regions.{deed_at}
+use Rattle.dn_monitor.specs.Heirs.{no_heirs}
 use Rattle.dn_monitor.specs.declared.orders.Order.TheVariants.{Move}
 use Rattle.dn_ring.specs.Ring.{IsOwner}
 use Rattle.dn_route.specs.CallersOrder.{Told}
@@ -34,7 +35,7 @@ adds_for n = replicate n (Add, [])
 
 -- a slot is given to a lane: the monitor is given the order, and makes its two actions
 abbrev pub grants : ℕ → ℕ → List (Event × List ℕ)
-grants slot lane = (Give (Move slot lane), []) ∷ (Monitor, []) ∷ (Monitor, []) ∷ []
+grants slot lane = (Give (Move slot lane), no_heirs) ∷ (Monitor, []) ∷ (Monitor, []) ∷ []
 
 -- and so is each slot below n to its owner, in order
 abbrev pub grants_to : (ℕ → ℕ) → ℕ → List (Event × List ℕ)
