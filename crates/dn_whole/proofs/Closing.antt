@@ -1,4 +1,4 @@
-use Rattle.std.proofs.Common.{ℕ, zero, suc, ◌≡◌, ◌≤◌, ◌++◌, ◌+◌, List, [], length, Option, refl, sym, ◌∙◌, ap, subst, append_assoc, arith, Result, Ok, Err, OnOk, IfOk, IfErr}
+use Rattle.std.proofs.Common.{ℕ, zero, suc, ◌≡◌, ◌≤◌, ◌++◌, ◌+◌, List, [], length, Option, refl, sym, ◌∙◌, ap, subst, append_assoc, arith}
 use Rattle.std.specs.FinMap.{len}
 use Rattle.std.specs.List.Sorted.{IsPermutation}
 use Rattle.dn_callers.specs.Callers.{Standing, receipts_of}
@@ -142,16 +142,3 @@ leaves_now w lines words p old r now at same = record { lanes = 0; es = []; merg
 
 pub leaves_drained : (r : Run) (n : ℕ) (now : List ℕ) → IsDrained r n now → Leaves r now
 leaves_drained r n now h = record { lanes = n; es = h.es; merges = h.merges; words = h.words }
-
--- ---- what comes where all went well
-pub on_done : {T E P Q : Type 0} (result : Result T E) → (P → Q) → OnOk result P → OnOk result Q
-on_done (Ok x) f h = f h
-on_done (Err e) f h = tt
-
-pub if_ok : {T E : Type 0} {P : T → Type 0} (result : Result T E) (Q : T → Type 0) → ((x : T) → P x → Q x) → IfOk result P → IfOk result Q
-if_ok (Ok x) Q f h = f x h
-if_ok (Err e) Q f h = tt
-
-pub if_err : {T E : Type 0} {P : E → Type 0} (result : Result T E) (Q : E → Type 0) → ((e : E) → P e → Q e) → IfErr result P → IfErr result Q
-if_err (Ok x) Q f h = tt
-if_err (Err e) Q f h = f e h

@@ -3,7 +3,7 @@ use Rattle.dn_play.specs.At.{Halts, Follow}
 use Rattle.dn_play.specs.declared.stops.Stop.{Stop}
 use Rattle.dn_play.specs.declared.stops.Stop.TheVariants as stop
 use Rattle.dn_whole.specs.Whole.{Plays, StopsPlay}
-use Rattle.dn_whole.proofs.Closing.{if_ok, if_err}
+use Rattle.dn_play.proofs.Printed.{if_ok, if_err}
 use Rattle.dn_whole.proofs.Opening.{IsOpen, can_start, reached_lines, can_close, plays_end, plays_long, stops_opening, stops_lines, stops_close}
 use Rattle.dn_whole.proofs.plays.play.Goals as goal
 

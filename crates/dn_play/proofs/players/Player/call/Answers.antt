@@ -2,7 +2,7 @@ use Rattle.std.proofs.Common.{List, ℕ, sym, ◌∙◌}
 use Rattle.dn_run.specs.Doing.{Start}
 use Rattle.dn_play.specs.At.{Ends, Finishes, Halts, Undone}
 use Rattle.dn_play.proofs.Lines.{start_next, can_start, can_finish, leads_call, ends_started, halts_started, ends_only}
-use Rattle.dn_play.proofs.Printed.{on_printed, if_stopped}
+use Rattle.dn_play.proofs.Printed.{on_ok, if_err}
 use Rattle.dn_play.proofs.players.Player.call.Goals as goal
 
 pub start-requires : goal.start-requires
@@ -23,7 +23,7 @@ returns-then-runs_on-clause-ends g c =
     let words : List ℕ = g.M.Memory.words c.args.mem.now in
     let mid : List ℕ = g.M.Memory.words c.start.new.mem in
     let now : List ℕ = g.M.Memory.words c.finish.new.mem in
-    on_printed {Q = Ends words c.args.self.now c.args.out.now.items now c.finish.new.self c.finish.new.out.items (Undone (Start c.args.session c.args.named c.args.only c.args.call))}
+    on_ok {Q = Ends words c.args.self.now c.args.out.now.items now c.finish.new.self c.finish.new.out.items (Undone (Start c.args.session c.args.named c.args.only c.args.call))}
     c.finish.result (λ ends. record {
       is = λ w lines r at may.
           ends_started w lines words mid now c.args.self.now c.start.new.self c.finish.new.self c.args.out.now.items c.start.new.out.items c.finish.new.out.items r c.args.session
@@ -35,7 +35,7 @@ returns-then-runs_on-clause-halts g c =
     let words : List ℕ = g.M.Memory.words c.args.mem.now in
     let mid : List ℕ = g.M.Memory.words c.start.new.mem in
     let now : List ℕ = g.M.Memory.words c.finish.new.mem in
-    if_stopped c.finish.result (Halts mid c.start.new.self c.start.new.out.items now c.finish.new.self c.finish.new.out.items (Finishes c.args.session))
+    if_err {P = Halts mid c.start.new.self c.start.new.out.items now c.finish.new.self c.finish.new.out.items (Finishes c.args.session)} c.finish.result
     (Halts words c.args.self.now c.args.out.now.items now c.finish.new.self c.finish.new.out.items (Undone (Start c.args.session c.args.named c.args.only c.args.call)))
     (λ stop halts. record {
       is = λ w lines r at may.

@@ -6,7 +6,7 @@ use Rattle.dn_run.specs.Run.{Run, loader}
 use Rattle.dn_play.specs.At.{IsAt, Stops}
 use Rattle.dn_play.specs.declared.players.Player.{Player}
 use Rattle.dn_play.proofs.More.{at_given}
-use Rattle.dn_play.proofs.Printed.{on_printed, if_unprinted}
+use Rattle.dn_play.proofs.Printed.{on_ok, if_unprinted}
 use Rattle.dn_play.proofs.Stopping.{step_load, stops_event, load_more, leaves_event}
 use Rattle.dn_play.proofs.players.Player.refresh.Goals as goal
 
@@ -15,7 +15,7 @@ returns-clause-goes g c =
     let p : Player = c.args.self.now in
     let q : Player = c.event.new.self in
     let now : List ℕ = g.M.Memory.words c.event.new.mem in
-    on_printed c.print_load.result (λ printed w lines r at.
+    on_ok c.print_load.result (λ printed w lines r at.
     at_given w lines (g.M.Memory.words c.args.mem.now) p c.args.out.now.items r (Refresh c.args.session) r.doing now q c.print_load.new.out.items c.in-Ok.outcome at c.requires.session at.going.doing refl
     (c.in-Ok.ensures.gives.is w lines c.args.out.now.items r at c.requires.session) printed) c.print_load.ensures.ok
 
