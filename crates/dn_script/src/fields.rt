@@ -65,7 +65,7 @@ fn unread<'a>() -> Found<'a>
 }
 
 /// The first field of a text, and what stands behind it.
-fn first_of(text: &[u8]) -> (&[u8], Option<&[u8]>)
+pub(crate) fn first_of(text: &[u8]) -> (&[u8], Option<&[u8]>)
     ensures { fields_of text.now ≡ result.0.now ∷ left_of result.1 }
 {
     match end_of_first(text, b' ') {
@@ -75,14 +75,14 @@ fn first_of(text: &[u8]) -> (&[u8], Option<&[u8]>)
 }
 
 /// Whether the field is `c` and digits.
-fn is_session(field: &[u8]) -> bool
+pub(crate) fn is_session(field: &[u8]) -> bool
     ensures { result ≡ is_session field.now }
 {
     is_led_by(field, b'c') && field.len() > 1 && are_digits(behind_first(field))
 }
 
 /// Whether the field looks like the part.
-fn looks_like(part: Part, field: &[u8]) -> bool
+pub(crate) fn looks_like(part: Part, field: &[u8]) -> bool
     ensures { result ≡ looks_like part field.now }
 {
     match part {
