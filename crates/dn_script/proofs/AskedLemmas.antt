@@ -1,4 +1,4 @@
-use Rattle.std.proofs.Common.{ℕ, ◌≡◌, ◌<◌, ◌≤◌, ◌+◌, zero, suc, Bool, true, false, List, [], ◌∷◌, ◌++◌, drop, drop-cons, add-one, get_or, length, length-append, if◌then◌else◌, refl, sym, ◌∙◌, ap, subst, arith}
+use Rattle.std.proofs.Common.{ℕ, ◌≡◌, ◌<◌, ◌≤◌, ◌+◌, Bool, true, false, List, [], ◌∷◌, drop, drop-cons, add-one, get_or, length, length-append, if◌then◌else◌, sym, ◌∙◌, ap, arith}
 use Rattle.dn_script.specs.Asked.{calls_of, with_line, asked_behind}
 use Rattle.dn_script.specs.declared.asked.AskedCall.{AskedCall}
 use Rattle.dn_script.specs.declared.scripts.Line.{Line}

@@ -2,6 +2,7 @@ mod DecimalLemmas
 mod DraftLemmas
 mod FieldLemmas
 pub mod LineFits
+mod LeadLemmas
 mod LeftLemmas
 mod PartLemmas
 mod SaidFits

@@ -2,7 +2,7 @@ use Rattle.std.specs.Prelude.{ℕ, List, [], Option, Some, None, Result, Ok, Err
 use Rattle.std.specs.Borrow.{Bor}
 use Rattle.dn_script.specs.declared.faults.Cause.{Cause}
 use Rattle.dn_script.specs.declared.fields.Found.{Found}
-use Rattle.dn_script.specs.Value.{value_of, value_or_none}
+use Rattle.dn_script.specs.Spelled.{bytes_of}
 use Rattle.dn_script.specs.Said.{Said}
 use Rattle.dn_script.specs.Sentence.{fields_of}
 
@@ -19,7 +19,7 @@ said_by found = record {
   start = found.start;
   lane = found.lane;
   key = found.key;
-  value = value_or_none (value_of found.value.now);
+  value = bytes_of found.value;
   segments = found.segments;
   nodes = found.nodes;
   units = found.units;

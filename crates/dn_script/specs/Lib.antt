@@ -3,6 +3,7 @@ pub mod Bad
 pub mod Fault
 pub mod Fit
 pub mod Found
+pub mod Lead
 pub mod LineFault
 pub mod Meaning
 pub mod Number

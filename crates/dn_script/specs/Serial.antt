@@ -1,4 +1,4 @@
-use Rattle.std.specs.Prelude.{Bool, true, false, List, not}
+use Rattle.std.specs.Prelude.{Bool, true, false, not}
 use Rattle.std.specs.List.{list_all}
 use Rattle.dn_script.specs.declared.scripts.Line.{Line}
 use Rattle.dn_script.specs.declared.scripts.Line.TheVariants as line

@@ -49,8 +49,3 @@ value_of field =
     if nat_eq (slice_index field 0) 61 then plain_value (drop 1 field)
     else (if nat_eq (slice_index field 0) 37 then pair_value (drop 1 field)
     else (if nat_eq (slice_index field 0) 35 then filled_value (drop 1 field) else None))
-
--- no bytes where there is no value
-abbrev pub value_or_none : Option (List ℕ) → List ℕ
-value_or_none None = []
-value_or_none (Some bytes) = bytes

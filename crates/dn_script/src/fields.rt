@@ -12,7 +12,7 @@ use crate::texts::{
     are_digits, behind, behind_first, end_of_first, is_led_by, is_word, number_in, small_in,
     tiny_in,
 };
-use crate::values::value;
+use crate::values::{Spelled, value};
 use crate::verbs::Verb;
 
 /// What lines may have.
@@ -33,8 +33,7 @@ pub(crate) struct Found<'a> {
     pub(crate) start: bool,
     pub(crate) lane: u8,
     pub(crate) key: u64,
-    /// The field of the value.
-    pub(crate) value: &'a [u8],
+    pub(crate) value: Spelled<'a>,
     pub(crate) segments: u32,
     pub(crate) nodes: u8,
     pub(crate) units: u32,
@@ -54,7 +53,7 @@ fn unread<'a>() -> Found<'a>
         start: false,
         lane: 1,
         key: 1,
-        value: b"=",
+        value: Spelled::Plain(b""),
         segments: 1,
         nodes: 1,
         units: 4096,
@@ -66,7 +65,7 @@ fn unread<'a>() -> Found<'a>
 }
 
 /// The first field of a text, and what stands behind it.
-fn first_of(text: &[u8]) -> (&[u8], Option<&[u8]>)
+pub(crate) fn first_of(text: &[u8]) -> (&[u8], Option<&[u8]>)
     ensures { fields_of text.now ≡ result.0.now ∷ left_of result.1 }
 {
     match end_of_first(text, b' ') {
@@ -76,14 +75,14 @@ fn first_of(text: &[u8]) -> (&[u8], Option<&[u8]>)
 }
 
 /// Whether the field is `c` and digits.
-fn is_session(field: &[u8]) -> bool
+pub(crate) fn is_session(field: &[u8]) -> bool
     ensures { result ≡ is_session field.now }
 {
     is_led_by(field, b'c') && field.len() > 1 && are_digits(behind_first(field))
 }
 
 /// Whether the field looks like the part.
-fn looks_like(part: Part, field: &[u8]) -> bool
+pub(crate) fn looks_like(part: Part, field: &[u8]) -> bool
     ensures { result ≡ looks_like part field.now }
 {
     match part {
@@ -163,10 +162,7 @@ fn with_field<'a>(
             None => Err(Cause::Key),
         },
         Part::Value => match value(field) {
-            Some(_) => Ok(Found {
-                value: field,
-                ..found
-            }),
+            Some(value) => Ok(Found { value, ..found }),
             None => Err(Cause::Value),
         },
         Part::Segments => match small_in(1, rules.segments, field) {

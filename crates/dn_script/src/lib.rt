@@ -27,6 +27,7 @@
 mod asked;
 mod faults;
 mod fields;
+mod leads;
 mod meanings;
 mod parsing;
 mod rows;

@@ -1,4 +1,4 @@
-ghost use Rattle.std.specs.Prelude.{◌≡◌, ◌<◌, ◌≤◌, ◌+◌, ◌-◌, ◌^◌, ℕ, Ok, Some, IfOk, IfErr, All, min, nat_eq, nat_lt, length, count_by, slice_index};
+ghost use Rattle.std.specs.Prelude.{◌≡◌, ◌<◌, ◌≤◌, ◌+◌, ◌-◌, ◌^◌, ℕ, [], Ok, Some, IfOk, IfErr, All, min, nat_eq, nat_lt, length, count_by, slice_index};
 ghost use Rattle.std.specs.List.{slice_split};
 ghost use Rattle.dn_script.specs.Fit.{IsScript};
 ghost use Rattle.dn_script.specs.Script.{script_of, played, draft_in, with_meaning, rules_of, is_whole, line_count};
@@ -81,11 +81,12 @@ fn read_script(
     ensures count { IfOk result (λ script. line_count bytes.now ≤ 1000000) }
     ensures bad { IfErr result (IsParseFault verbs.now mode segments bytes.now) }
 {
-    if count_lines(bytes) > MAX_LINES {
+    let count = count_lines(bytes);
+    if count > MAX_LINES {
         return Err(ParseFault::Lines);
     }
     let rules = rules_for(verbs, mode, segments);
-    let Draft { header, lines } = drafts(alloc, verbs, rules, bytes)?;
+    let Draft { header, lines } = drafts(alloc, verbs, rules, bytes, count as usize)?;
     Ok(Script {
         segments: header.segments.unwrap_or(DEFAULT_SEGMENTS.min(segments)),
         nodes: header.nodes.unwrap_or(1),
@@ -202,8 +203,25 @@ fn fault_at(number: u64, fault: LineFault) -> ParseFault
     }
 }
 
-/// What the lines give.
-fn drafts(alloc: Global, verbs: &[Verb], rules: Rules, bytes: &[u8]) -> Result<Draft, ParseFault>
+/// An empty list with room for so many.
+fn list_of(alloc: Global, room: usize) -> Result<Vec<Line>, ParseFault>
+    ensures ok { IfOk result (λ lines. lines.items ≡ []) }
+    ensures bad { IfErr result (λ fault. fault ≡ ParseFault.OutOfMemory) }
+{
+    match Vec::with_capacity(alloc, room) {
+        Ok(lines) => Ok(lines),
+        Err(_) => Err(ParseFault::OutOfMemory),
+    }
+}
+
+/// What the lines give. Room for so many of them is taken at once, so that their list needn't grow.
+fn drafts(
+    alloc: Global,
+    verbs: &[Verb],
+    rules: Rules,
+    bytes: &[u8],
+    room: usize,
+) -> Result<Draft, ParseFault>
     ensures ok { IfOk result
         (λ draft. draft_in verbs.now rules bytes.now ≡ Ok (draft_of draft)) }
     ensures bad { IfErr result (IsDraftFault (draft_in verbs.now rules bytes.now)) }
@@ -213,7 +231,7 @@ fn drafts(alloc: Global, verbs: &[Verb], rules: Rules, bytes: &[u8]) -> Result<D
         nodes: None,
         units: None,
     };
-    let mut lines = Vec::new(alloc);
+    let mut lines = list_of(alloc, room)?;
     let mut number: u64 = 1;
     let mut rest = bytes;
     while let Some(end) = end_of_first(rest, b'\n') {

@@ -5,10 +5,12 @@ ghost use Rattle.std.specs.List.{list_all, find};
 ghost use Rattle.dn_script.specs.Found.{said_in};
 ghost use Rattle.dn_script.specs.Said.{reading, unsaid};
 ghost use Rattle.dn_script.specs.Sentence.{fields_of, is_known, is_begun, row_of, is_barred, is_misplaced, has_count, checked, judged, judged_by, is_idle, line_meaning};
+ghost use Rattle.dn_script.specs.Lead.{if_known};
 ghost use Rattle.dn_script.specs.LineFault.{IsLineFault};
 
 use crate::faults::Cause;
 use crate::fields::{Found, Rules, begins, read};
+use crate::leads::lead;
 use crate::meanings::{Header, Meaning, given_by};
 use crate::rows::{Part, Row, TABLE};
 use crate::scripts::Mode;
@@ -59,11 +61,25 @@ fn first_begun(verbs: &[Verb], line: &[u8], rows: &[Row]) -> Option<Row>
     rows.iter().copied().find(|row| is_begun(verbs, line, *row))
 }
 
-/// The row that the line begins.
+/// The row, where all of it is played.
+fn if_known(verbs: &[Verb], row: Row) -> Option<Row>
+    ensures { result ≡ if_known verbs.now row }
+{
+    if are_known(verbs, row.parts()) {
+        Some(row)
+    } else {
+        None
+    }
+}
+
+/// The row that the line begins: the one that its first fields lead to, else the first of the table.
 fn row_of(verbs: &[Verb], line: &[u8]) -> Option<Row>
     ensures { result ≡ row_of verbs.now (fields_of line.now) }
 {
-    first_begun(verbs, line, &TABLE)
+    match lead(line) {
+        Some(row) => if_known(verbs, row),
+        None => first_begun(verbs, line, &TABLE),
+    }
 }
 
 /// Whether the mode has no such lines.

@@ -2,7 +2,7 @@
 
 ghost use Rattle.std.specs.Prelude.{◌≡◌, ◌≤◌, ◌∷◌, [], IfOk, nat_eq, length};
 ghost use Rattle.std.specs.List.{list_all, slice_split};
-ghost use Rattle.dn_script.specs.Value.{is_hexadecimal, digit_value, pairs_of, plain_value, pair_value, filled_by, filled_value, value_of, value_or_none};
+ghost use Rattle.dn_script.specs.Value.{is_hexadecimal, digit_value, pairs_of, plain_value, pair_value, filled_by, filled_value, value_of};
 ghost use Rattle.dn_script.specs.Spelled.{bytes_in, bytes_of};
 
 use crate::texts::{are_within, behind, behind_first, end_of_first, is_led_by, small_in, tiny_in};
@@ -123,16 +123,23 @@ fn spelled_bytes(alloc: Global, spelled: Spelled<'_>) -> Result<Vec<u8>, AllocEr
     }
 }
 
-/// The value that a field spells: one of no bytes where it spells none.
-pub(crate) fn made(alloc: Global, field: &[u8]) -> Result<Value, OutOfMemory>
-    ensures { IfOk result (λ made. made ≡ value_or_none (value_of field.now)) }
+/// A value with a copy of these bytes, of which there are no more than a value has.
+fn copied(alloc: Global, bytes: &[u8]) -> Result<Value, OutOfMemory>
+    ensures { IfOk result (λ value. value ≡ bytes.now) }
 {
-    let spelled = value(field).unwrap_or(Spelled::Plain(b""));
-    let Ok(bytes) = spelled_bytes(alloc, spelled) else {
-        return Err(OutOfMemory);
-    };
-    match Value::from_bytes(alloc, bytes.as_slice()) {
-        Ok(made) => Ok(made),
+    match Value::from_bytes(alloc, bytes) {
+        Ok(value) => Ok(value),
         Err(_) => Err(OutOfMemory),
     }
+}
+
+/// The value that is spelled so. Plain bytes are copied once, from where they stand.
+pub(crate) fn made(alloc: Global, spelled: Spelled<'_>) -> Result<Value, OutOfMemory>
+    ensures { IfOk result (λ made. made ≡ bytes_of spelled.entry) }
+{
+    if let Spelled::Plain(bytes) = spelled {
+        return copied(alloc, bytes);
+    }
+    let bytes = spelled_bytes(alloc, spelled)?;
+    copied(alloc, bytes.as_slice())
 }

@@ -1,4 +1,4 @@
-use Rattle.std.proofs.Common.{ℕ, ◌+◌, ◌∷◌, ◌++◌, List, [], refl, sym, ◌∙◌, ap}
+use Rattle.std.proofs.Common.{ℕ, ◌+◌, ◌∷◌, ◌++◌, List, [], sym, ◌∙◌, ap}
 use Rattle.dn_hist.specs.declared.calls.Call.{Call}
 use Rattle.dn_script.specs.Asked.{calls_of, with_line}
 use Rattle.dn_script.specs.declared.asked.AskedCall.{AskedCall}

@@ -1,4 +1,4 @@
-use Rattle.std.proofs.Common.{ℕ, ◌≡◌, ◌≤◌, ◌+◌, List, Bool, Vec, Global, drop, length, refl, sym, ◌∙◌, ap, arith}
+use Rattle.std.proofs.Common.{ℕ, ◌≡◌, ◌+◌, List, Bool, Vec, Global, drop, length, ◌∙◌, ap, arith}
 use Rattle.dn_script.specs.Asked.{asked_behind}
 use Rattle.dn_script.specs.Asked.{with_line}
 use Rattle.dn_script.specs.declared.asked.AskedCall.{AskedCall}
