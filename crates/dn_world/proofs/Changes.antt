@@ -7,8 +7,7 @@ use Rattle.dn_cluster.specs.Does.{Does}
 use Rattle.dn_outcomes.specs.State.{World, Done, done, with_event}
 use Rattle.dn_outcomes.specs.declared.outcomes.Outcome.{Outcome}
 use Rattle.dn_world.specs.State.{CrewState, world_of}
-use Rattle.dn_world.specs.Comes.{Turns, IsDone, Moves, Carries, Comes, CountsFault, bare, joining, has_failed}
-use Rattle.dn_world.specs.declared.crews.Came.{Came}
+use Rattle.dn_world.specs.Comes.{Came, Turns, IsDone, Moves, Carries, Comes, CountsFault, bare, joining, has_failed}
 
 -- What a call does to a crew, from what it does to its parts.
 

@@ -6,7 +6,7 @@ use Rattle.dn_outcomes.specs.Sound.{MayHappen}
 use Rattle.dn_outcomes.specs.declared.events.Event.{Event}
 use Rattle.dn_outcomes.specs.declared.outcomes.Outcome.{Outcome}
 use Rattle.dn_outcomes.specs.State.{World, Done}
-use Rattle.dn_world.specs.Comes.{Moves, Comes, CountsFault}
+use Rattle.dn_world.specs.Comes.{Came, Moves, Comes, CountsFault}
 use Rattle.std.specs.Option.{is_some}
 use Rattle.dn_monitor.specs.Monitor.{Monitoring}
 use Rattle.dn_monitor.specs.declared.orders.Order.{Order}
@@ -15,7 +15,6 @@ use Rattle.dn_world.specs.Gives.{IsGivenBy}
 use Rattle.dn_world.specs.Happens.{HappensTo}
 use Rattle.dn_world.proofs.Giving.{given}
 use Rattle.dn_world.specs.State.{CrewState, world_of}
-use Rattle.dn_world.specs.declared.crews.Came.{Came}
 
 -- What comes of an event.
 

@@ -1,16 +1,16 @@
-use Rattle.std.proofs.Common.{ℕ, ◌≡◌, ◌++◌, ◌∷◌, [], List, Option, Some, None, map, true, sym, ◌∙◌, ap}
+use Rattle.std.proofs.Common.{ℕ, ◌≡◌, ◌++◌, ◌∷◌, [], List, Option, Some, None, map, true, refl, sym, ◌∙◌, ap}
 use Rattle.std.proofs.lemmas.List.{append-nil, map-append}
 use Rattle.dn_hist.specs.declared.receipts.Receipt.{Receipt}
 use Rattle.dn_callers.specs.Callers.{Standing}
 use Rattle.dn_drain.specs.declared.drains.Merged.{Merged}
 use Rattle.dn_outcomes.specs.Does.{does}
 use Rattle.dn_outcomes.specs.declared.events.Event.{Event}
+use Rattle.dn_outcomes.specs.declared.outcomes.Outcome.{Outcome}
 use Rattle.dn_outcomes.proofs.Kept.{kept}
-use Rattle.dn_world.specs.Comes.{joining}
+use Rattle.dn_world.specs.Comes.{Came, Keeps, bare, joining}
 use Rattle.dn_world.specs.Happens.{HappensTo, Happens}
 use Rattle.dn_world.specs.Inside.{stands_as}
 use Rattle.dn_world.specs.State.{CrewState, world_of}
-use Rattle.dn_world.specs.declared.crews.Came.{Came}
 use Rattle.dn_world.specs.declared.worlds.Standing.{Standing as Kept}
 
 -- A world keeps the receipts that stand.
@@ -37,3 +37,11 @@ one_more xs now was r o e same is = ap (λ (ks : List Kept). map stands_as ks) (
 
 pub no_more : (xs was : List Kept) (o : Option Receipt) → was ≡ xs → o ≡ None → map stands_as was ≡ map stands_as xs ++ joining o
 no_more xs was o same is = ap (λ (ks : List Kept). map stands_as ks) same ∙ sym (append-nil (map stands_as xs)) ∙ ap (λ (p : Option Receipt). map stands_as xs ++ joining p) (sym is)
+
+-- none came
+pub keeps_none : (was now : List Kept) (o : Outcome) (P : Came → Type 0) → now ≡ was → P (bare o) → Keeps was now o P
+keeps_none was now o P same h = record { receipt = None; kept = no_more was now None same refl; is = h }
+
+-- the same receipt stands, and this is so besides
+pub keeps_as : (was now : List Kept) (o : Outcome) (P Q : Came → Type 0) → ((came : Came) → P came → Q came) → Keeps was now o P → Keeps was now o Q
+keeps_as was now o P Q f h = record { receipt = h.receipt; kept = h.kept; is = f (record { outcome = o; receipt = h.receipt }) h.is }

@@ -18,9 +18,8 @@ use Rattle.dn_cluster.specs.declared.actors.Acted.TheVariants as acted
 use Rattle.dn_outcomes.specs.State.{World, Done, done, with_event}
 use Rattle.dn_outcomes.specs.Steps.{by_turn, acts_by, acts_of, acts}
 use Rattle.dn_outcomes.specs.declared.outcomes.Outcome.TheVariants.{Nothing}
-use Rattle.dn_world.specs.Comes.{Moves, Carries, bare, joining}
+use Rattle.dn_world.specs.Comes.{Came, Moves, Carries, bare, joining}
 use Rattle.dn_world.specs.State.{CrewState, world_of}
-use Rattle.dn_world.specs.declared.crews.Came.{Came}
 use Rattle.dn_world.proofs.Refreshing.{IsActed, acted_world}
 use Rattle.dn_world.proofs.Changes.{is_done}
 

@@ -19,10 +19,9 @@ use Rattle.dn_outcomes.specs.Sound.{IsWorld, view_at, view_by}
 use Rattle.dn_outcomes.specs.State.{World, Done, done, is_made, on_lane}
 use Rattle.dn_outcomes.specs.Steps.{acts_of, acts, begins, steps_by, steps_of, step}
 use Rattle.dn_outcomes.specs.declared.outcomes.Outcome.TheVariants.{Nothing, NoLane}
-use Rattle.dn_world.specs.Comes.{Comes, CanBeWorld}
+use Rattle.dn_world.specs.Comes.{Came, Comes, CanBeWorld}
 use Rattle.dn_world.specs.State.{CrewState, world_of}
 use Rattle.dn_world.specs.Takes.{barred_by, IsSessionOf}
-use Rattle.dn_world.specs.declared.crews.Came.{Came}
 use Rattle.dn_world.proofs.Changes.{is_done, where_true, where_false}
 
 -- A lane makes its next action, or takes up what waits.

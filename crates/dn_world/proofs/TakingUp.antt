@@ -40,9 +40,8 @@ use Rattle.dn_outcomes.specs.declared.outcomes.Outcome.TheVariants.{Tended}
 use Rattle.dn_outcomes.specs.Going.{called, ends}
 use Rattle.dn_outcomes.specs.declared.outcomes.CallAnswer.TheVariants.{Fenced}
 use Rattle.dn_outcomes.proofs.Facts.{rests_begun, tend_own, is_free, may_ask, try_session, try_call, try_key, try_stamp, try_hint}
-use Rattle.dn_world.specs.Comes.{Moves, Carries, Comes, bare}
+use Rattle.dn_world.specs.Comes.{Came, Moves, Carries, Comes, bare}
 use Rattle.dn_world.specs.State.{CrewState, world_of}
-use Rattle.dn_world.specs.declared.crews.Came.{Came}
 use Rattle.dn_world.specs.Takes.{Takes, barred_by, tends_at, tries_at}
 use Rattle.dn_world.proofs.Changes.{is_done, no_receipt, clustered}
 

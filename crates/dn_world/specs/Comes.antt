@@ -1,4 +1,4 @@
-use Rattle.std.specs.Prelude.{◌≡◌, ◌<◌, ℕ, Bool, true, false, List, [], ◌∷◌, ◌++◌, Option, Some, None}
+use Rattle.std.specs.Prelude.{◌≡◌, ◌<◌, ℕ, Bool, true, false, List, [], ◌∷◌, ◌++◌, map, Option, Some, None}
 use Rattle.dn_hist.specs.declared.receipts.Receipt.{Receipt}
 use Rattle.dn_route.specs.CallersOrder.{Told}
 use Rattle.dn_callers.specs.Callers.{Standing}
@@ -9,9 +9,15 @@ use Rattle.dn_outcomes.specs.Sound.{IsWorld}
 use Rattle.dn_outcomes.specs.declared.outcomes.Outcome.{Outcome}
 use Rattle.dn_outcomes.specs.declared.outcomes.Outcome.TheVariants as outcome
 use Rattle.dn_world.specs.State.{CrewState, world_of}
-use Rattle.dn_world.specs.declared.crews.Came.{Came}
+use Rattle.dn_world.specs.Inside.{stands_as}
+use Rattle.dn_world.specs.declared.worlds.Standing.{Standing as Kept}
 
 -- What a call does to a crew over the words of its pool, as a change of the world.
+
+-- what came of a call, and the receipt that came to stand by it
+pub record Came : Type 0 where
+  pub outcome : Outcome
+  pub receipt : Option Receipt
 
 -- the receipt that joins
 abbrev pub joining : Option Receipt → List Standing
@@ -49,6 +55,12 @@ pub record Comes (words : List ℕ) (x : CrewState) (now : List ℕ) (y : CrewSt
 -- no receipt comes
 abbrev pub bare : Outcome → Came
 bare outcome = record { outcome = outcome; receipt = None }
+
+-- a receipt came to stand behind those that stood, or none, and this is so of what came
+pub record Keeps (was now : List Kept) (outcome : Outcome) (P : Came → Type 0) : Type 0 where
+  pub receipt : Option Receipt
+  pub kept : map stands_as now ≡ map stands_as was ++ joining receipt
+  pub is : P (record { outcome = outcome; receipt = receipt })
 
 -- ---- whether the access failed
 abbrev pub has_failed : Outcome → Bool

@@ -13,9 +13,8 @@ use Rattle.dn_outcomes.specs.Sound.{IsWorld, MayHappen}
 use Rattle.dn_outcomes.specs.declared.events.Event.{Event}
 use Rattle.dn_outcomes.specs.declared.events.Event.TheVariants as event
 use Rattle.dn_outcomes.specs.declared.outcomes.Outcome.{Outcome}
-use Rattle.dn_world.specs.Comes.{IsDone}
+use Rattle.dn_world.specs.Comes.{Came, IsDone}
 use Rattle.dn_world.specs.State.{CrewState, WorldState, world_of}
-use Rattle.dn_world.specs.declared.crews.Came.{Came}
 
 -- What an event does to a world over the words of its pool.
 

@@ -1,10 +1,10 @@
 //! A cluster with what waits for its lanes: everything of a world but the receipts that stand.
 
-ghost use Rattle.std.specs.Prelude.{◌≡◌, ◌≢◌, ◌==◌, ◌<◌, ◌≤◌, ◌-◌, ◌^◌, [], ℕ, not, List, Option, Some, None, true, false, length, IfOk, IfErr, IsSome, OnOk, OnErr};
+ghost use Rattle.std.specs.Prelude.{◌≡◌, ◌≢◌, ◌==◌, ◌<◌, ◌≤◌, ◌-◌, ◌^◌, ◌++◌, [], ℕ, not, List, Option, Some, None, true, false, length, map, vec_len, vec_capacity, IfOk, IfErr, IsSome, OnOk, OnErr};
 ghost use Rattle.std.specs.List.{list_any, filter};
 ghost use Rattle.std.specs.Option.{option_copied};
 ghost use Rattle.dn_route.specs.CallersOrder.{Told};
-ghost use Rattle.dn_callers.specs.Callers.{Standing};
+ghost use Rattle.dn_callers.specs.Callers.{Standing as Stands};
 ghost use Rattle.dn_callers.specs.Sessions.{IsSession};
 ghost use Rattle.dn_cluster.specs.Machine.{session_at, IsMade, Runs};
 ghost use Rattle.dn_hist.specs.declared.receipts.SessionView.{SessionView as View};
@@ -24,9 +24,10 @@ ghost use Rattle.dn_cluster.specs.Asks.{refused_in};
 ghost use Rattle.dn_cluster.specs.Does.{Does, CanBeSound};
 ghost use Rattle.dn_waiting.specs.State.{call_of, at_lane};
 ghost use Rattle.dn_world.specs.State.{CrewState, world_of};
-ghost use Rattle.dn_world.specs.Comes.{CanBeWorld, Can, Turns, Moves, Carries, Comes, bare, OnDone, CountsFault, has_failed};
+ghost use Rattle.dn_world.specs.Comes.{CanBeWorld, Can, Turns, Moves, Carries, Comes, Keeps, bare, joining, OnDone, CountsFault, has_failed};
 ghost use Rattle.dn_world.specs.Gives.{IsGivenBy, next_by};
 ghost use Rattle.dn_world.specs.Happens.{MayBeGivenTo, HappensTo};
+ghost use Rattle.dn_world.specs.Inside.{stands_as};
 ghost use Rattle.dn_drain.specs.Acted.{LeavesActors};
 ghost use Rattle.dn_drain.specs.All.{AreDrained, AreMerged, IsLaneFault};
 ghost use Rattle.dn_drain.specs.Drained.{IsFullFault, CountsPool};
@@ -38,10 +39,11 @@ mod openings;
 
 use crate::leaving::{fenced_by, leaves_by, told_by};
 use crate::routes::{key_of, lane_or_none};
+use crate::worlds::Standing;
 use dn_act::{Action, Memory};
 use dn_cluster::{Acted, Actor, AddFault, Cluster};
 use dn_drain::{LaneFault, Merged, drain_all};
-use dn_hist::{Call, Receipt, SessionView};
+use dn_hist::{Call, SessionView};
 use dn_lane::{Answer, Refuse, Turn};
 use dn_merge::MergeTurn;
 use dn_monitor::Order;
@@ -70,24 +72,6 @@ impl Model for Crew {
     ghost view = { state_of };
 }
 
-/// What came of an event, and the receipt that came to stand by it.
-#[derive(Drop)]
-pub struct Came {
-    pub outcome: Outcome,
-    pub receipt: Option<Receipt>,
-}
-
-/// An outcome without a receipt.
-#[inline(always)]
-fn bare(outcome: Outcome) -> Came
-    ensures { result ≡ bare outcome }
-{
-    Came {
-        outcome,
-        receipt: None,
-    }
-}
-
 /// The slot of the key of a session's call.
 fn slot_at(waiting: &Waiting, session: u32) -> u8
     requires { IsSession session }
@@ -101,15 +85,23 @@ fn slot_at(waiting: &Waiting, session: u32) -> u8
 }
 
 impl Crew {
-    /// Does one event.
-    pub fn event<M: Memory>(&mut self, mem: &mut M, event: Event) -> Result<Came, OutOfMemory>
+    /// Does one event. A receipt that comes to stand by it goes behind those that stand, where there is room for it.
+    pub fn event<M: Memory>(
+        &mut self,
+        mem: &mut M,
+        event: Event,
+        standing: &mut Vec<Standing>,
+    ) -> Result<Outcome, OutOfMemory>
         requires can { CanBeWorld (M.words mem.old) self.old }
         requires event { MayBeGivenTo self.old event }
-        ensures comes { IfOk result (λ came. OnDone came.outcome (HappensTo (M.words mem.old)
-            self.old (M.words mem.new) self.new came event)) }
-        ensures count { IfOk result (λ came. CountsFault came.outcome (M.faults mem.old)
+        requires room { vec_len standing.old < vec_capacity standing.old }
+        ensures comes { IfOk result (λ outcome. OnDone outcome (Keeps standing.old.items
+            standing.new.items outcome (λ came. HappensTo (M.words mem.old) self.old
+            (M.words mem.new) self.new came event))) }
+        ensures count { IfOk result (λ outcome. CountsFault outcome (M.faults mem.old)
             (M.faults mem.new)) }
         ensures same { OnErr result (self.new ≡ self.old) }
+        ensures kept { OnErr result (standing.new.items ≡ standing.old.items) }
         ensures words { OnErr result (M.words mem.new ≡ M.words mem.old) }
         ensures faults { OnErr result (M.faults mem.new ≡ M.faults mem.old) }
     {
@@ -119,7 +111,7 @@ impl Crew {
                 lane,
                 call,
             } => self.start(session, lane, call),
-            Event::Step { lane } => return self.step(mem, lane),
+            Event::Step { lane } => return self.step(mem, lane, standing),
             Event::Flow { lane, index } => self.flow(mem, lane, index),
             Event::Merge { lane } => self.merge(mem, lane),
             Event::Monitor => self.monitor(mem),
@@ -129,7 +121,7 @@ impl Crew {
             Event::Add => self.add()?,
             Event::Tell { from, to } => self.tell(from, to),
         };
-        Ok(bare(outcome))
+        Ok(outcome)
     }
 
     /// How many lanes were made.
@@ -165,7 +157,7 @@ impl Crew {
 
     /// Whether a lane with this number was made.
     fn is_made(&self, lane: u8) -> bool
-        ensures { (words : List ℕ) (told : List Told) (receipts : List Standing)
+        ensures { (words : List ℕ) (told : List Told) (receipts : List Stands)
             → result ≡ is_made (world_of words self.now told receipts) lane }
     {
         0 < lane && lane <= self.cluster.lanes()
@@ -173,7 +165,7 @@ impl Crew {
 
     /// Whether a line may name this lane, or none.
     fn may_name(&self, lane: Option<u8>) -> bool
-        ensures { (words : List ℕ) (told : List Told) (receipts : List Standing)
+        ensures { (words : List ℕ) (told : List Told) (receipts : List Stands)
             → result ≡ may_name (world_of words self.now told receipts) lane }
     {
         match lane {
@@ -271,66 +263,91 @@ impl Crew {
 
     /// A lane makes its next action.
     #[inline(always)]
-    pub fn step<M: Memory>(&mut self, mem: &mut M, lane: u8) -> Result<Came, OutOfMemory>
+    pub fn step<M: Memory>(
+        &mut self,
+        mem: &mut M,
+        lane: u8,
+        standing: &mut Vec<Standing>,
+    ) -> Result<Outcome, OutOfMemory>
         requires can { CanBeWorld (M.words mem.old) self.old }
-        ensures came { IfOk result (λ came. OnDone came.outcome (Comes (M.words mem.old) self.old
-            (M.words mem.new) self.new came (λ w. on_lane w lane (step w lane)))) }
-        ensures count { IfOk result (λ came. CountsFault came.outcome (M.faults mem.old)
+        requires room { vec_len standing.old < vec_capacity standing.old }
+        ensures came { IfOk result (λ outcome. OnDone outcome (Keeps standing.old.items
+            standing.new.items outcome (λ came. Comes (M.words mem.old) self.old (M.words mem.new)
+            self.new came (λ w. on_lane w lane (step w lane))))) }
+        ensures count { IfOk result (λ outcome. CountsFault outcome (M.faults mem.old)
             (M.faults mem.new)) }
         ensures same { OnErr result (self.new ≡ self.old) }
+        ensures kept { OnErr result (standing.new.items ≡ standing.old.items) }
         ensures words { OnErr result (M.words mem.new ≡ M.words mem.old) }
         ensures faults { OnErr result (M.faults mem.new ≡ M.faults mem.old) }
     {
         if !self.is_made(lane) {
-            return Ok(bare(Outcome::NoLane));
+            return Ok(Outcome::NoLane);
         }
         if self.cluster.is_stopped(lane) {
-            return Ok(bare(Outcome::Nothing));
+            return Ok(Outcome::Nothing);
         }
         if self.cluster.lane(lane).working() {
-            return Ok(self.act(mem, lane));
+            return Ok(self.act(mem, lane, standing));
         }
-        self.begin_next(mem, lane)
+        self.begin_next(mem, lane, standing)
     }
 
     /// A lane with nothing under way takes up what waits there. Most actions begin nothing.
     #[inline(never)]
-    fn begin_next<M: Memory>(&mut self, mem: &mut M, lane: u8) -> Result<Came, OutOfMemory>
+    fn begin_next<M: Memory>(
+        &mut self,
+        mem: &mut M,
+        lane: u8,
+        standing: &mut Vec<Standing>,
+    ) -> Result<Outcome, OutOfMemory>
         requires free { IsFree (M.words mem.old) self.old lane }
-        ensures came { IfOk result (λ came. OnDone came.outcome (Comes (M.words mem.old) self.old
-            (M.words mem.new) self.new came (λ w. begins_at w lane))) }
-        ensures count { IfOk result (λ came. CountsFault came.outcome (M.faults mem.old)
+        requires room { vec_len standing.old < vec_capacity standing.old }
+        ensures came { IfOk result (λ outcome. OnDone outcome (Keeps standing.old.items
+            standing.new.items outcome (λ came. Comes (M.words mem.old) self.old (M.words mem.new)
+            self.new came (λ w. begins_at w lane)))) }
+        ensures count { IfOk result (λ outcome. CountsFault outcome (M.faults mem.old)
             (M.faults mem.new)) }
         ensures same { OnErr result (self.new ≡ self.old) }
+        ensures kept { OnErr result (standing.new.items ≡ standing.old.items) }
         ensures words { OnErr result (M.words mem.new ≡ M.words mem.old) }
         ensures faults { OnErr result (M.faults mem.new ≡ M.faults mem.old) }
     {
         match self.waiting.next_for(lane) {
-            Next::Rest => Ok(bare(Outcome::Nothing)),
-            Next::Tend(task) => self.tend(mem, lane, task),
-            Next::Try(view) => self.attempt(mem, lane, view),
+            Next::Rest => Ok(Outcome::Nothing),
+            Next::Tend(task) => self.tend(mem, lane, task, standing),
+            Next::Try(view) => self.attempt(mem, lane, view, standing),
         }
     }
 
     /// A lane with nothing under way takes up a task.
-    fn tend<M: Memory>(&mut self, mem: &mut M, lane: u8, task: Task) -> Result<Came, OutOfMemory>
+    fn tend<M: Memory>(
+        &mut self,
+        mem: &mut M,
+        lane: u8,
+        task: Task,
+        standing: &mut Vec<Standing>,
+    ) -> Result<Outcome, OutOfMemory>
         requires takes { Takes (M.words mem.old) self.old lane (Next.Tend task) }
-        ensures came { IfOk result (λ came. OnDone came.outcome (Comes (M.words mem.old) self.old
-            (M.words mem.new) self.new came (λ w. tends_at w lane task))) }
-        ensures count { IfOk result (λ came. CountsFault came.outcome (M.faults mem.old)
+        requires room { vec_len standing.old < vec_capacity standing.old }
+        ensures came { IfOk result (λ outcome. OnDone outcome (Keeps standing.old.items
+            standing.new.items outcome (λ came. Comes (M.words mem.old) self.old (M.words mem.new)
+            self.new came (λ w. tends_at w lane task)))) }
+        ensures count { IfOk result (λ outcome. CountsFault outcome (M.faults mem.old)
             (M.faults mem.new)) }
         ensures same { OnErr result (self.new ≡ self.old) }
+        ensures kept { OnErr result (standing.new.items ≡ standing.old.items) }
         ensures words { OnErr result (M.words mem.new ≡ M.words mem.old) }
         ensures faults { OnErr result (M.faults mem.new ≡ M.faults mem.old) }
     {
         match self.cluster.give_task(lane, task) {
             Ok(()) => {
                 self.waiting.take_up(lane);
-                Ok(self.act(mem, lane))
+                Ok(self.act(mem, lane, standing))
             }
             Err(Refuse::Fenced { word }) => {
                 self.waiting.take_up(lane);
-                Ok(bare(Outcome::Tended(TaskAnswer::Fenced { word })))
+                Ok(Outcome::Tended(TaskAnswer::Fenced { word }))
             }
             Err(_) => Err(OutOfMemory),
         }
@@ -342,24 +359,28 @@ impl Crew {
         mem: &mut M,
         lane: u8,
         view: SessionView,
-    ) -> Result<Came, OutOfMemory>
+        standing: &mut Vec<Standing>,
+    ) -> Result<Outcome, OutOfMemory>
         requires takes { Takes (M.words mem.old) self.old lane (Next.Try view) }
-        ensures came { IfOk result (λ came. OnDone came.outcome (Comes (M.words mem.old) self.old
-            (M.words mem.new) self.new came (λ w. tries_at w lane view))) }
-        ensures count { IfOk result (λ came. CountsFault came.outcome (M.faults mem.old)
+        requires room { vec_len standing.old < vec_capacity standing.old }
+        ensures came { IfOk result (λ outcome. OnDone outcome (Keeps standing.old.items
+            standing.new.items outcome (λ came. Comes (M.words mem.old) self.old (M.words mem.new)
+            self.new came (λ w. tries_at w lane view)))) }
+        ensures count { IfOk result (λ outcome. CountsFault outcome (M.faults mem.old)
             (M.faults mem.new)) }
         ensures same { OnErr result (self.new ≡ self.old) }
+        ensures kept { OnErr result (standing.new.items ≡ standing.old.items) }
         ensures words { OnErr result (M.words mem.new ≡ M.words mem.old) }
         ensures faults { OnErr result (M.faults mem.new ≡ M.faults mem.old) }
     {
         match self.begin(lane, view) {
             Ok(()) => {
                 self.waiting.take_up(lane);
-                Ok(self.act(mem, lane))
+                Ok(self.act(mem, lane, standing))
             }
             Err(Refuse::Fenced { word }) => {
                 self.waiting.take_up(lane);
-                Ok(bare(self.end(lane, CallAnswer::Fenced { word })))
+                Ok(self.end(lane, CallAnswer::Fenced { word }))
             }
             Err(_) => Err(OutOfMemory),
         }
@@ -367,44 +388,58 @@ impl Crew {
 
     /// A lane carries out its next action.
     #[inline(always)]
-    fn act<M: Memory>(&mut self, mem: &mut M, lane: u8) -> Came
+    fn act<M: Memory>(&mut self, mem: &mut M, lane: u8, standing: &mut Vec<Standing>) -> Outcome
         requires can { CanBeSound (M.words mem.old) self.old.cluster }
         requires lane { IsLane lane }
         requires session { IsSessionOf (at_lane self.old.waiting lane).begun }
-        ensures came { OnDone result.outcome (Carries (M.words mem.old) self.old (M.words mem.new)
-            self.new result (λ w. acts w lane)) }
-        ensures count { CountsFault result.outcome (M.faults mem.old) (M.faults mem.new) }
+        requires room { vec_len standing.old < vec_capacity standing.old }
+        ensures came { OnDone result (Keeps standing.old.items standing.new.items result (λ came.
+            Carries (M.words mem.old) self.old (M.words mem.new) self.new came
+            (λ w. acts w lane))) }
+        ensures count { CountsFault result (M.faults mem.old) (M.faults mem.new) }
     {
         match self.cluster.act(mem, Actor::Lane(lane)) {
-            Acted::Lane(turn) => self.turned(lane, turn),
-            Acted::Fault => bare(Outcome::Fault {
+            Acted::Lane(turn) => self.turned(lane, turn, standing),
+            Acted::Fault => Outcome::Fault {
                 actor: Actor::Lane(lane),
-            }),
-            _ => bare(Outcome::Nothing),
+            },
+            _ => Outcome::Nothing,
         }
     }
 
     /// A lane has answered.
     #[inline(always)]
-    fn turned(&mut self, lane: u8, turn: Turn) -> Came
+    fn turned(&mut self, lane: u8, turn: Turn, standing: &mut Vec<Standing>) -> Outcome
         requires lane { IsLane lane }
         requires session { IsSessionOf (at_lane self.old.waiting lane).begun }
-        ensures came { (words : List ℕ) → Moves words self.old words self.new
-            (bare result.outcome) (λ w. by_turn w lane turn) }
-        ensures receipt { result.receipt ≡ receipt_by turn }
-        ensures done { has_failed result.outcome ≡ false }
+        requires room { vec_len standing.old < vec_capacity standing.old }
+        ensures came { (words : List ℕ) → Moves words self.old words self.new (bare result)
+            (λ w. by_turn w lane turn) }
+        ensures kept { map stands_as standing.new.items
+            ≡ map stands_as standing.old.items ++ joining (receipt_by turn) }
+        ensures done { has_failed result ≡ false }
     {
         match turn {
-            Turn::More => bare(Outcome::Acted),
-            Turn::Tended(answer) => bare(Outcome::Tended(answer)),
-            Turn::Done(answer) => {
-                let (told, receipt) = parts(answer);
-                Came {
-                    outcome: self.end(lane, told),
-                    receipt,
-                }
-            }
+            Turn::More => Outcome::Acted,
+            Turn::Tended(answer) => Outcome::Tended(answer),
+            Turn::Done(answer) => self.answered(lane, answer, standing),
         }
+    }
+
+    /// A lane has answered its call, whose receipt comes to stand if it was made. Most actions answer none.
+    #[inline(never)]
+    fn answered(&mut self, lane: u8, answer: Answer, standing: &mut Vec<Standing>) -> Outcome
+        requires lane { IsLane lane }
+        requires session { IsSessionOf (at_lane self.old.waiting lane).begun }
+        requires room { vec_len standing.old < vec_capacity standing.old }
+        ensures came { (words : List ℕ) → Moves words self.old words self.new (bare result)
+            (λ w. ends w lane (told_of answer)) }
+        ensures kept { map stands_as standing.new.items
+            ≡ map stands_as standing.old.items ++ joining (receipt_in answer) }
+        ensures done { has_failed result ≡ false }
+    {
+        let told = keep(standing, answer);
+        self.end(lane, told)
     }
 
     /// The attempt that is under way at a lane has ended. Most actions end none.
@@ -583,7 +618,7 @@ impl Crew {
 
     /// Whether an order names lanes that were made, or a live one.
     fn may_order(&self, order: Order) -> bool
-        ensures { (words : List ℕ) (told : List Told) (receipts : List Standing)
+        ensures { (words : List ℕ) (told : List Told) (receipts : List Stands)
             → result ≡ may_order (world_of words self.now told receipts) order }
     {
         match order {
@@ -595,7 +630,7 @@ impl Crew {
 
     /// Whether a lane is live.
     fn is_live(&self, lane: u8) -> bool
-        ensures { (words : List ℕ) (told : List Told) (receipts : List Standing)
+        ensures { (words : List ℕ) (told : List Told) (receipts : List Stands)
             → result ≡ is_live (world_of words self.now told receipts) lane }
     {
         holds(&self.live, lane)
@@ -700,17 +735,25 @@ fn end_of(answer: CallAnswer) -> AttemptEnd
     }
 }
 
-/// An answer without its receipt, and the receipt.
+/// Keeps the receipt of an answer, if it has one, behind those that stand, and gives the answer without it. There is room.
 #[inline(always)]
-fn parts(answer: Answer) -> (CallAnswer, Option<Receipt>)
-    ensures told { result.0 ≡ told_of answer }
-    ensures receipt { result.1 ≡ receipt_in answer }
+fn keep(standing: &mut Vec<Standing>, answer: Answer) -> CallAnswer
+    requires { vec_len standing.old < vec_capacity standing.old }
+    ensures told { result ≡ told_of answer }
+    ensures kept { map stands_as standing.new.items
+        ≡ map stands_as standing.old.items ++ joining (receipt_in answer) }
 {
     match answer {
-        Answer::Made { receipt, way } => (CallAnswer::Made { way }, Some(receipt)),
-        Answer::NotOwner { look, cell } => (CallAnswer::NotOwner { look, cell }, None),
-        Answer::Fenced { word } => (CallAnswer::Fenced { word }, None),
-        Answer::Full { counter, segments } => (CallAnswer::Full { counter, segments }, None),
-        Answer::Worn { stamp } => (CallAnswer::Worn { stamp }, None),
+        Answer::Made { receipt, way } => {
+            standing.push_reserved(Standing {
+                receipt,
+                answered: true,
+            });
+            CallAnswer::Made { way }
+        }
+        Answer::NotOwner { look, cell } => CallAnswer::NotOwner { look, cell },
+        Answer::Fenced { word } => CallAnswer::Fenced { word },
+        Answer::Full { counter, segments } => CallAnswer::Full { counter, segments },
+        Answer::Worn { stamp } => CallAnswer::Worn { stamp },
     }
 }

@@ -1,7 +1,6 @@
-ghost use Rattle.std.specs.Prelude.{◌≡◌, ◌<◌, ◌++◌, ◌^◌, ℕ, List, [], length, map, vec_len, vec_capacity, IfOk, IfErr, OnOk, OnErr};
+ghost use Rattle.std.specs.Prelude.{◌≡◌, ◌<◌, ◌^◌, ℕ, List, [], length, IfOk, IfErr, OnOk, OnErr};
 ghost use Rattle.dn_outcomes.specs.declared.events.Event.TheVariants as Given;
-ghost use Rattle.dn_world.specs.Comes.{OnDone, CountsFault, joining};
-ghost use Rattle.dn_world.specs.Inside.{stands_as};
+ghost use Rattle.dn_world.specs.Comes.{OnDone, CountsFault};
 ghost use Rattle.dn_drain.specs.Acted.{LeavesActors};
 ghost use Rattle.dn_drain.specs.All.{AreDrained};
 ghost use Rattle.dn_drain.specs.Leaves.{LeavesLogs};
@@ -10,7 +9,7 @@ ghost use Rattle.dn_world.specs.Happens.{CanBeSound, MayBeGiven, Happens};
 
 mod openings;
 
-use crate::crews::{Came, Crew};
+use crate::crews::Crew;
 use crate::finishes::{FinishFault, fault_by};
 use dn_act::Memory;
 use dn_drain::Merged;
@@ -47,24 +46,6 @@ impl Model for World {
     ghost view = { world_in };
 }
 
-/// Keeps the receipt that came with an outcome, if one did, behind those that stand. There is room for it.
-#[inline(always)]
-fn keep(standing: &mut Vec<Standing>, came: Came) -> Outcome
-    requires { vec_len standing.old < vec_capacity standing.old }
-    ensures outcome { result ≡ came.outcome }
-    ensures kept { map stands_as standing.new.items
-        ≡ map stands_as standing.old.items ++ joining came.receipt }
-{
-    let Came { outcome, receipt } = came;
-    if let Some(receipt) = receipt {
-        standing.push_reserved(Standing {
-            receipt,
-            answered: true,
-        });
-    }
-    outcome
-}
-
 impl World {
     /// Does one event. What comes of it is `does` of `dn_outcomes`, a function of the world, the words of the pool and the
     /// event, and besides, for a takeover, of the live lanes' ring; the world is sound after it. The words are those that
@@ -95,7 +76,7 @@ impl World {
     }
 
     /// A lane makes its next action: the event that comes most often, by itself. All on its way to the lane is carried out in
-    /// place, since each call would hand an outcome with its receipt on through memory.
+    /// place, since each call would hand an outcome on through memory. Receipts go where they stand from where calls end.
     #[inline(always)]
     fn step<M: Memory>(&mut self, mem: &mut M, lane: u8) -> Result<Outcome, OutOfMemory>
         requires can { CanBeSound (M.words mem.old) self.old }
@@ -109,8 +90,7 @@ impl World {
         ensures ended { self.new.ended ≡ self.old.ended }
     {
         self.standing.reserve(1)?;
-        let came = self.crew.step(mem, lane)?;
-        Ok(keep(&mut self.standing, came))
+        self.crew.step(mem, lane, &mut self.standing)
     }
 
     /// Does one event, whatever it is.
@@ -128,8 +108,7 @@ impl World {
         ensures ended { self.new.ended ≡ self.old.ended }
     {
         self.standing.reserve(1)?;
-        let came = self.crew.event(mem, event)?;
-        Ok(keep(&mut self.standing, came))
+        self.crew.event(mem, event, &mut self.standing)
     }
 
     /// Ends a world: the merger of each lane that was made acts until all is merged that the lane has sealed, up to its first

@@ -12,13 +12,13 @@ use Rattle.dn_waiting.specs.State.{call_of}
 use Rattle.dn_outcomes.specs.Going.{called, ends}
 use Rattle.dn_outcomes.specs.Steps.{acts}
 use Rattle.dn_outcomes.specs.declared.outcomes.CallAnswer.TheVariants.{Fenced}
-use Rattle.dn_world.specs.Comes.{Comes, Carries, Moves, bare, has_failed}
+use Rattle.dn_world.specs.Comes.{Came, Comes, Carries, Moves, bare}
 use Rattle.dn_world.specs.Inside.{state_of}
 use Rattle.dn_world.specs.State.{CrewState}
 use Rattle.dn_world.specs.Takes.{Takes, tries_at, IsSessionOf}
-use Rattle.dn_world.specs.declared.crews.Came.{Came}
 use Rattle.dn_world.proofs.TakingUp.{takes_begun, takes_room, may_try, tries_sound, after_taking, tries_so, tries_barred, then_acts, taken_try, IsGivenTo}
 use Rattle.dn_world.proofs.Changes.{counts_done}
+use Rattle.dn_world.proofs.History.{keeps_none, keeps_as}
 use Rattle.dn_world.proofs.crews.Crew.attempt.Goals as goal
 
 pub begin-requires-clause-runs : goal.begin-requires-clause-runs
@@ -126,10 +126,14 @@ returns-in-Ok-clause-came g c =
     (record { does = c.in-Ok.ensures.does; segments = c.begin.ensures.segments; lanes = c.begin.ensures.lanes }) in
     let lives : b.live ≡ x.live = ap (λ (z : CrewState). z.live) c.self.view_is ∙ c.begin.ensures.live in
     let now : List ℕ = g.M.Memory.words c.act.new.mem in
-    λ fine. then_acts words x (after_taking x b.cluster n) now c.act.new.self c.act.result n (λ w. tries_at w n view)
+    let y : CrewState = c.act.new.self in
+    let acted : CrewState = record { cluster = b.cluster; waiting = c.take_up.new.self; live = b.live } in
+    λ fine. keeps_as _ _ c.act.result (λ (came : Came). Carries words acted now y came (λ w. acts w n)) (λ (came : Came). Comes words x now y came (λ w. tries_at w n view))
+    (λ came by. then_acts words x (after_taking x b.cluster n) now y came n (λ w. tries_at w n view)
     (tries_so words x n view b.cluster h given c.in-Ok.ensures.free)
-    (subst (λ (w : WaitingState). Carries words (record { cluster = b.cluster; waiting = w; live = x.live }) now c.act.new.self c.act.result (λ w. acts w n)) (c.take_up.ensures.after ∙ ap (λ (w : WaitingState). taken_up w n) waits)
-    (subst (λ (l : List ℕ). Carries words (record { cluster = b.cluster; waiting = c.take_up.new.self; live = l }) now c.act.new.self c.act.result (λ w. acts w n)) lives (c.act.ensures.came fine)))
+    (subst (λ (w : WaitingState). Carries words (record { cluster = b.cluster; waiting = w; live = x.live }) now y came (λ w. acts w n)) (c.take_up.ensures.after ∙ ap (λ (w : WaitingState). taken_up w n) waits)
+    (subst (λ (l : List ℕ). Carries words (record { cluster = b.cluster; waiting = c.take_up.new.self; live = l }) now y came (λ w. acts w n)) lives by)))
+    (c.act.ensures.came fine)
 
 pub take_up-requires-in-Err-Fenced-clause-free : goal.take_up-requires-in-Err-Fenced-clause-free
 take_up-requires-in-Err-Fenced-clause-free g c =
@@ -165,10 +169,10 @@ returns-in-Err-Fenced-clause-came g c =
     let same : b ≡ x = c.self-in-Err-Fenced.view_is ∙ c.in-Err-Fenced.ensures.same in
     let at : record { cluster = b.cluster; waiting = c.take_up-in-Err-Fenced.new.self; live = b.live } ≡ after_taking x x.cluster n =
     ap (λ (w : WaitingState). record { cluster = b.cluster; waiting = w; live = b.live }) c.take_up-in-Err-Fenced.ensures.after ∙ ap (λ (z : CrewState). after_taking z z.cluster n) same in
-    λ _. subst (λ (z : Came). Comes words x words c.end.new.self z (λ w. tries_at w n view)) (sym c.bare.ensures)
+    λ _. keeps_none _ _ c.end.result (λ (came : Came). Comes words x words c.end.new.self came (λ w. tries_at w n view)) refl
     (tries_barred words x c.end.new.self n view c.in-Err-Fenced.word c.end.result h (subst (Refuses (refused_in x.cluster n)) c.in-Err-Fenced.field-0-is c.in-Err-Fenced.ensures.cause)
     (subst (λ (z : CrewState). Moves words z words c.end.new.self (bare c.end.result) (λ w. ends w n (Fenced c.in-Err-Fenced.word))) at (c.end.ensures.came words)))
 
 pub returns-in-Err-Fenced-clause-count : goal.returns-in-Err-Fenced-clause-count
 returns-in-Err-Fenced-clause-count g c =
-    counts_done c.bare.result.outcome _ _ (ap (λ (z : Came). has_failed z.outcome) c.bare.ensures ∙ c.end.ensures.done) refl
+    counts_done c.end.result _ _ c.end.ensures.done refl

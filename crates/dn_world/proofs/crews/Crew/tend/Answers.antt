@@ -1,16 +1,18 @@
 use Rattle.std.proofs.Common.{ℕ, List, refl, subst, sym, ◌∙◌}
 use Rattle.dn_waiting.specs.State.{WaitingState, at_lane}
 use Rattle.dn_waiting.specs.declared.calls.Next.TheVariants.{Tend}
-use Rattle.dn_world.specs.Comes.{Comes, Carries}
+use Rattle.dn_world.specs.Comes.{Came, Comes, Carries, bare}
 use Rattle.dn_world.specs.Inside.{state_of}
 use Rattle.dn_world.specs.State.{CrewState}
 use Rattle.dn_world.specs.Takes.{Takes, tends_at, IsSessionOf}
 use Rattle.dn_outcomes.specs.Steps.{acts}
+use Rattle.dn_outcomes.specs.declared.outcomes.Outcome.{Outcome}
 use Rattle.dn_outcomes.specs.declared.outcomes.Outcome.TheVariants.{Tended}
 use Rattle.dn_tend.specs.declared.tasks.TaskAnswer.TheVariants as answer
 use Rattle.dn_world.proofs.TakingUp.{takes_begun, takes_room, takes_fits, tends_sound, after_taking, tends_so, tends_barred, then_acts, taken_tend, refused_now}
 use Rattle.dn_lane.specs.Refused.{Refuses}
 use Rattle.dn_cluster.specs.Asks.{refused_in}
+use Rattle.dn_world.proofs.History.{keeps_none, keeps_as}
 use Rattle.dn_world.proofs.crews.Crew.tend.Goals as goal
 
 pub give_task-requires-clause-runs : goal.give_task-requires-clause-runs
@@ -64,10 +66,15 @@ returns-in-Ok-clause-came g c =
     let x : CrewState = state_of c.self.inside in
     let n : ℕ = c.args.lane in
     let h : Takes words x n (Tend c.args.task) = subst (λ (z : CrewState). Takes words z n (Tend c.args.task)) (sym c.self.view_is) c.requires.takes in
-    λ fine. subst (λ (z : CrewState). Comes words z (g.M.Memory.words c.act.new.mem) c.act.new.self c.act.result (λ w. tends_at w n c.args.task)) c.self.view_is
-    (then_acts words x (after_taking x c.give_task.new.self n) (g.M.Memory.words c.act.new.mem) c.act.new.self c.act.result n (λ w. tends_at w n c.args.task)
+    let now : List ℕ = g.M.Memory.words c.act.new.mem in
+    let y : CrewState = c.act.new.self in
+    let acted : CrewState = record { cluster = c.give_task.new.self; waiting = c.take_up.new.self; live = x.live } in
+    λ fine. keeps_as _ _ c.act.result (λ (came : Came). Carries words acted now y came (λ w. acts w n)) (λ (came : Came). Comes words c.args.self.now now y came (λ w. tends_at w n c.args.task))
+    (λ came by. subst (λ (z : CrewState). Comes words z now y came (λ w. tends_at w n c.args.task)) c.self.view_is
+    (then_acts words x (after_taking x c.give_task.new.self n) now y came n (λ w. tends_at w n c.args.task)
     (tends_so words x n c.args.task c.give_task.new.self h (record { does = c.in-Ok.ensures.does; segments = c.give_task.ensures.segments; lanes = c.give_task.ensures.lanes }) c.in-Ok.ensures.free)
-    (subst (λ (w : WaitingState). Carries words (record { cluster = c.give_task.new.self; waiting = w; live = x.live }) (g.M.Memory.words c.act.new.mem) c.act.new.self c.act.result (λ w. acts w n)) c.take_up.ensures.after (c.act.ensures.came fine)))
+    (subst (λ (w : WaitingState). Carries words (record { cluster = c.give_task.new.self; waiting = w; live = x.live }) now y came (λ w. acts w n)) c.take_up.ensures.after by)))
+    (c.act.ensures.came fine)
 
 pub take_up-requires-in-Err-Fenced-clause-free : goal.take_up-requires-in-Err-Fenced-clause-free
 take_up-requires-in-Err-Fenced-clause-free g c =
@@ -84,7 +91,9 @@ returns-in-Err-Fenced-clause-came g c =
     let n : ℕ = c.args.lane in
     let h : Takes words x n (Tend c.args.task) = subst (λ (z : CrewState). Takes words z n (Tend c.args.task)) (sym c.self.view_is) c.requires.takes in
     let y : CrewState = record { cluster = c.give_task.new.self; waiting = c.take_up-in-Err-Fenced.new.self; live = x.live } in
-    λ _. subst (λ (z : CrewState). Comes words z words y c.bare.result (λ w. tends_at w n c.args.task)) c.self.view_is
-    (refused_now words x y c.give_task.new.self c.take_up-in-Err-Fenced.new.self n c.bare.result (Tended (answer.Fenced c.in-Err-Fenced.word)) (λ w. tends_at w n c.args.task)
-    c.in-Err-Fenced.ensures.same c.take_up-in-Err-Fenced.ensures.after c.bare.ensures refl
-    (tends_barred words x n c.args.task c.in-Err-Fenced.word h (subst (Refuses (refused_in x.cluster n)) c.in-Err-Fenced.field-0-is c.in-Err-Fenced.ensures.cause)))
+    let told : Outcome = Tended (answer.Fenced c.in-Err-Fenced.word) in
+    λ _. keeps_none _ _ told (λ (came : Came). Comes words c.args.self.now words y came (λ w. tends_at w n c.args.task)) refl
+    (subst (λ (z : CrewState). Comes words z words y (bare told) (λ w. tends_at w n c.args.task)) c.self.view_is
+    (refused_now words x y c.give_task.new.self c.take_up-in-Err-Fenced.new.self n (bare told) told (λ w. tends_at w n c.args.task)
+    c.in-Err-Fenced.ensures.same c.take_up-in-Err-Fenced.ensures.after refl refl
+    (tends_barred words x n c.args.task c.in-Err-Fenced.word h (subst (Refuses (refused_in x.cluster n)) c.in-Err-Fenced.field-0-is c.in-Err-Fenced.ensures.cause))))
