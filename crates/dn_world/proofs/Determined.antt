@@ -4,7 +4,6 @@ use Rattle.dn_ring.specs.Ring.{IsOwner}
 use Rattle.dn_ring.proofs.OwnerLaws.{one_owner}
 use Rattle.dn_outcomes.specs.Runs.{after}
 use Rattle.dn_outcomes.specs.State.{opened}
-use Rattle.dn_outcomes.specs.State.{World}
 use Rattle.dn_outcomes.specs.declared.events.Event.{Event}
 use Rattle.dn_world.specs.Opening.{adds_for, grants, grants_to, lanes_to, formatted, IsOpened}
 use Rattle.dn_world.specs.State.{WorldState, world_of}

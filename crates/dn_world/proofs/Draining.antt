@@ -1,4 +1,4 @@
-use Rattle.std.proofs.Common.{ℕ, zero, suc, ◌+◌, ◌≡◌, ◌≤◌, ◌<◌, inl, inr, List, [], ◌++◌, replicate, length, refl, sym, ◌∙◌, ap, subst, true, arith}
+use Rattle.std.proofs.Common.{ℕ, zero, suc, ◌+◌, ◌≡◌, ◌≤◌, ◌<◌, inl, inr, List, ◌++◌, replicate, length, refl, sym, ◌∙◌, ap, subst, true, arith}
 use Rattle.std.proofs.lemmas.Bool.{cases_eq, cases_lt}
 use Rattle.dn_merge.specs.declared.mergers.MergeTurn.{MergeTurn}
 use Rattle.dn_merge.specs.declared.mergers.MergeTurn.TheVariants as turn

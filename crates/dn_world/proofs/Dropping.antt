@@ -13,7 +13,7 @@ use Rattle.dn_outcomes.specs.State.{World, Done, with_event}
 use Rattle.dn_outcomes.specs.declared.outcomes.Outcome.{Outcome}
 use Rattle.dn_outcomes.specs.declared.outcomes.Outcome.TheVariants as outcome
 use Rattle.dn_cluster.specs.declared.actors.Actor.{Actor}
-use Rattle.dn_world.specs.Comes.{Turns, Carries, CanBeWorld, bare, has_failed}
+use Rattle.dn_world.specs.Comes.{Turns, Carries, bare, has_failed}
 use Rattle.dn_world.specs.Opening.{MayGoOn, MonitorFails, Leads}
 use Rattle.dn_world.specs.State.{CrewState, world_of}
 

@@ -1,4 +1,4 @@
-use Rattle.std.proofs.Common.{ℕ, ◌≡◌, List, ap, subst, sym, refl, ◌∙◌}
+use Rattle.std.proofs.Common.{ℕ, ◌≡◌, List, ap, sym, refl, ◌∙◌}
 use Rattle.dn_waiting.specs.State.{at_lane}
 use Rattle.dn_waiting.specs.Turns.{next_at}
 use Rattle.dn_waiting.specs.declared.calls.Next.{Next}

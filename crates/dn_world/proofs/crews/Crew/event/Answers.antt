@@ -1,14 +1,14 @@
-use Rattle.std.proofs.Common.{ℕ, ◌≡◌, List, [], refl, ap, subst, sym, ◌∙◌}
+use Rattle.std.proofs.Common.{ℕ, List, [], refl, subst, sym}
 use Rattle.dn_outcomes.specs.Does.{does}
 use Rattle.dn_outcomes.specs.declared.events.Event.{Event}
 use Rattle.dn_outcomes.specs.declared.events.Event.TheVariants as event
 use Rattle.dn_outcomes.specs.Steps.{step}
 use Rattle.dn_outcomes.specs.State.{on_lane}
-use Rattle.dn_world.specs.Comes.{Came, Comes, Keeps, OnDone, bare, has_failed}
+use Rattle.dn_world.specs.Comes.{Came, Comes, Keeps, OnDone, bare}
 use Rattle.dn_world.specs.Happens.{MayBeGivenTo, HappensTo}
 use Rattle.dn_world.specs.State.{CrewState}
-use Rattle.dn_world.proofs.Changes.{comes_of, counts_done}
-use Rattle.dn_world.proofs.Events.{comes_moved, happens_by, happens_as, counts_as, given_takes}
+use Rattle.dn_world.proofs.Changes.{comes_of}
+use Rattle.dn_world.proofs.Events.{comes_moved, happens_by, given_takes}
 use Rattle.dn_world.proofs.Stepping.{if_ok}
 use Rattle.dn_world.specs.declared.worlds.Standing.{Standing as Kept}
 use Rattle.dn_world.proofs.History.{keeps_none, keeps_as}

@@ -1,4 +1,4 @@
-use Rattle.std.proofs.Common.{ℕ, List, ◌++◌, map, sym, ◌∙◌, ap, subst}
+use Rattle.std.proofs.Common.{ℕ, List, ◌++◌, map, ◌∙◌, ap, subst}
 use Rattle.dn_world.specs.Comes.{Came, Keeps, OnDone, joining}
 use Rattle.dn_world.specs.Happens.{HappensTo, Happens}
 use Rattle.dn_world.specs.Inside.{stands_as}

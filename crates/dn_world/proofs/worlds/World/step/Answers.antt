@@ -1,4 +1,4 @@
-use Rattle.std.proofs.Common.{ℕ, List, [], ◌++◌, map, sym, ◌∙◌, ap, subst}
+use Rattle.std.proofs.Common.{ℕ, List, [], ◌++◌, map, ◌∙◌, ap, subst}
 use Rattle.dn_outcomes.specs.declared.events.Event.TheVariants.{Step}
 use Rattle.dn_outcomes.specs.State.{on_lane}
 use Rattle.dn_outcomes.specs.Steps.{step}
