@@ -1,0 +1,2 @@
+pub mod Unmerged
+pub mod Grants
