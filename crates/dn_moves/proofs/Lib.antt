@@ -1,2 +1,4 @@
 pub mod Pools
 pub mod Monitors
+pub mod Actors
+pub mod Steps

@@ -1,2 +1,4 @@
 pub mod Unmerged
 pub mod Grants
+pub mod Changes
+pub mod Orders
