@@ -2,3 +2,5 @@ pub mod Pools
 pub mod Monitors
 pub mod Actors
 pub mod Steps
+pub mod Events
+pub mod Grants
