@@ -34,7 +34,7 @@ use Rattle.dn_moves.proofs.Steps.{At, Leaves, Kept, kept_same, goes_on_at, step_
 -- What each event leaves of the deeds, and of the monitor's order.
 
 -- ---- sessions: no word is stored, and no order moves
-start_at : (P : List ℕ → Option Monitoring → Type 0) (w : World) (s : ℕ) (named : Option ℕ) (call : Call) → At P w.machine → At P (start w s named call).world.machine
+pub start_at : (P : List ℕ → Option Monitoring → Type 0) (w : World) (s : ℕ) (named : Option ℕ) (call : Call) → At P w.machine → At P (start w s named call).world.machine
 start_at P w s named call h = by_name (may_name w named) where
   by_closed : (b : Bool) → At P (start_unless w s named call b).world.machine
   by_closed true = h
@@ -52,7 +52,7 @@ routes_at : (P : List ℕ → Option Monitoring → Type 0) (v : World) (s : ℕ
 routes_at P v s None h = h
 routes_at P v s (Some c) h = goes_on_at P _ s _ h
 
-refresh_at : (P : List ℕ → Option Monitoring → Type 0) (w : World) (s : ℕ) → At P w.machine → At P (refresh w s).world.machine
+pub refresh_at : (P : List ℕ → Option Monitoring → Type 0) (w : World) (s : ℕ) → At P w.machine → At P (refresh w s).world.machine
 refresh_at P w s h = by_load (w.machine.loads s) refl where
   by_load : (o : Option ℕ) → w.machine.loads s ≡ o → At P (refresh_of w s o).world.machine
   by_load None e = h
@@ -60,7 +60,7 @@ refresh_at P w s h = by_load (w.machine.loads s) refl where
       subst (λ (x : Machine). At P (routes (record w { machine = x }) s (call_of w.waiting s)).world.machine) (sym (ap (loaded_machine w.machine s) e))
       (routes_at P (record w { machine = loaded_machine w.machine s (Some slot) }) s (call_of w.waiting s) h)
 
-tells_at : (P : List ℕ → Option Monitoring → Type 0) (w : World) (s t : ℕ) → At P w.machine → At P (tells w s t).world.machine
+pub tells_at : (P : List ℕ → Option Monitoring → Type 0) (w : World) (s t : ℕ) → At P w.machine → At P (tells w s t).world.machine
 tells_at P w s t h = by_closed (w.machine.callers.closed t) where
   by_closed : (b : Bool) → At P (tells_unless w s t b).world.machine
   by_closed true = h
@@ -71,7 +71,7 @@ queues_at : (P : List ℕ → Option Monitoring → Type 0) (w : World) (n : ℕ
 queues_at P w n task None h = h
 queues_at P w n task (Some l) h = h
 
-adds_at : (P : List ℕ → Option Monitoring → Type 0) (w : World) → At P w.machine → At P (adds w).world.machine
+pub adds_at : (P : List ℕ → Option Monitoring → Type 0) (w : World) → At P w.machine → At P (adds w).world.machine
 adds_at P w h = by_test (nat_lt w.made 63) where
   by_test : (b : Bool) → At P (if b then adds_lane w (w.made + 1) else done w LanesFull).world.machine
   by_test true = h
@@ -99,7 +99,7 @@ flow_kept w n index h = by_lane (w.machine.lanes n) refl where
 abbrev pub AreSame : Machine → Machine → Type 0
 AreSame m x = Leaves (λ old new. new ≡ old) m.words m.monitor x.words x.monitor
 
-same_deeds : (m : Machine) → AreSame m m
+pub same_deeds : (m : Machine) → AreSame m m
 same_deeds m = record { deeds = λ t lt. refl; order = refl }
 
 merge_leaves : (w : World) (n : ℕ) → IsWorld w → AreSame w.machine (merge w n).world.machine
@@ -127,19 +127,24 @@ unlive_at : (P : List ℕ → Option Monitoring → Type 0) (w : World) (o : Opt
 unlive_at P w None h = h
 unlive_at P w (Some n) h = h
 
--- what is so where nothing happens, and after the monitor's action, is so after its event
+-- what is so after the monitor's action is so after its event
+pub acted_at : (P : List ℕ → Option Monitoring → Type 0) (w : World) (x : Monitoring) (action : Action) → w.machine.monitor ≡ Some x → monitor_next x ≡ Some action → At P (monitor_does w.machine x (Some action))
+    → At P (orders_by w x (Some action)).world.machine
+acted_at P w x action is e h =
+    let word : ℕ = found w.machine action in
+    let o : Option Leaving = leaves_by (Some action) (monitor_turn x word) (monitor_next (monitor_after x word)) in
+    let now : happens w.machine (Acts Monitor) ≡ monitor_does w.machine x (Some action) =
+    ap (λ o. of_monitor w.machine o (λ y. monitor_does w.machine y (monitor_next y))) is ∙ ap (monitor_does w.machine x) e in
+    unlive_at P (release (with_event w (Acts Monitor)) o) (fenced_by (Some action))
+    (released_at P (with_event w (Acts Monitor)) o (subst (λ (z : Machine). At P z) (sym now) h))
+
+-- and what is so where nothing happens, too
 pub monitor_at : (P : List ℕ → Option Monitoring → Type 0) (w : World) → At P w.machine
     → ((x : Monitoring) (action : Action) → w.machine.monitor ≡ Some x → monitor_next x ≡ Some action → At P (monitor_does w.machine x (Some action))) → At P (monitor w).world.machine
 monitor_at P w h each = by_order w.machine.monitor refl where
   by_action : (x : Monitoring) (o : Option Action) → w.machine.monitor ≡ Some x → monitor_next x ≡ o → At P (orders_by w x o).world.machine
   by_action x None is e = h
-  by_action x (Some action) is e =
-      let word : ℕ = found w.machine action in
-      let o : Option Leaving = leaves_by (Some action) (monitor_turn x word) (monitor_next (monitor_after x word)) in
-      let now : happens w.machine (Acts Monitor) ≡ monitor_does w.machine x (Some action) =
-      ap (λ o. of_monitor w.machine o (λ y. monitor_does w.machine y (monitor_next y))) is ∙ ap (monitor_does w.machine x) e in
-      unlive_at P (release (with_event w (Acts Monitor)) o) (fenced_by (Some action))
-      (released_at P (with_event w (Acts Monitor)) o (subst (λ (z : Machine). At P z) (sym now) (each x action is e)))
+  by_action x (Some action) is e = acted_at P w x action is e (each x action is e)
 
   by_order : (o : Option Monitoring) → w.machine.monitor ≡ o → At P (orders_of w o).world.machine
   by_order None is = h

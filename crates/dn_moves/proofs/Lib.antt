@@ -4,3 +4,5 @@ pub mod Actors
 pub mod Steps
 pub mod Events
 pub mod Grants
+pub mod Orders
+pub mod Owners
