@@ -29,7 +29,8 @@ pub fn changes()
 /// word of the pool that changes.
 pub fn grants()
     ensures monitor { (w : World) (e : Event) (heirs : List ℕ) (t : ℕ) → IsWorld w → t < 64
-        → Grants w.machine.words (does w e heirs).world.machine.words t → is_monitor e ≡ true }
+        → Grants w.machine.words (does w e heirs).world.machine.words t
+        → is_monitor e ≡ true }
     ensures so { (w : World) (heirs : List ℕ) (t : ℕ) → IsWorld w → t < 64
         → Grants w.machine.words (does w event.Monitor heirs).world.machine.words t
         → IsGranted w.machine.words (does w event.Monitor heirs).world.machine.words
