@@ -1,6 +1,4 @@
-use Rattle.std.proofs.Common.{ℕ, ◌+◌, ◌<◌, ◌≡◌, ◌&&◌, inl, inr, Bool, true, false, List, Option, Some, None, nat_lt, if◌then◌else◌, refl, sym, ◌∙◌, ap, subst, arith}
-use Rattle.dn_word.specs.declared.packed.deed.Deed.{Deed}
-use Rattle.dn_act.specs.Action.{words_after}
+use Rattle.std.proofs.Common.{ℕ, ◌+◌, ◌<◌, ◌≡◌, ◌&&◌, Bool, true, false, List, Option, Some, None, nat_lt, if◌then◌else◌, refl, sym, ◌∙◌, ap, subst}
 use Rattle.dn_act.specs.declared.actions.Action.{Action}
 use Rattle.dn_hist.specs.declared.calls.Call.{Call}
 use Rattle.dn_log.specs.Staged.{flow_of}
@@ -10,10 +8,9 @@ use Rattle.dn_monitor.specs.Monitor.{Monitoring, monitor_next, monitor_turn, mon
 use Rattle.dn_monitor.specs.declared.orders.Order.{Order}
 use Rattle.dn_tend.specs.declared.tasks.Task.{Task}
 use Rattle.dn_lane.specs.State.{LaneState}
-use Rattle.dn_machine.specs.Events.{Merger, Monitor, Flows, Acts, found, acted, with_merger, of_merger, of_monitor, monitor_does, happens, loaded as loaded_machine}
+use Rattle.dn_machine.specs.Events.{Merger, Monitor, Acts, found, acted, with_merger, of_merger, of_monitor, monitor_does, happens, loaded as loaded_machine}
 use Rattle.dn_machine.specs.State.{Machine}
 use Rattle.dn_waiting.specs.State.{call_of}
-use Rattle.dn_waiting.specs.declared.calls.Course.{Course}
 use Rattle.dn_waiting.specs.declared.calls.OpenCall.{OpenCall}
 use Rattle.dn_outcomes.specs.Does.{queues, adds_lane, adds, tells_unless, tells, does}
 use Rattle.dn_outcomes.specs.declared.leaving.Leaving.{Leaving}

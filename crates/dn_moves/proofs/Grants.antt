@@ -1,7 +1,5 @@
-use Rattle.std.proofs.Common.{ℕ, ◌≡◌, ◌<◌, inl, inr, ◌⊎◌, true, List, Option, Some, None, refl, ap, arith}
+use Rattle.std.proofs.Common.{ℕ, ◌≡◌, ◌<◌, inl, inr, true, List, refl, ap, arith}
 use Rattle.dn_word.specs.declared.packed.deed.Deed.{Deed}
-use Rattle.dn_model.specs.Regions.{deed}
-use Rattle.dn_monitor.specs.Monitor.{Monitoring}
 use Rattle.dn_callers.specs.Callers.{receipts_of}
 use Rattle.dn_outcomes.specs.Does.{does}
 use Rattle.dn_outcomes.specs.Sound.{IsWorld}

@@ -1,4 +1,4 @@
-use Rattle.std.proofs.Common.{ℕ, ◌≡◌, ◌≢◌, ◌<◌, inl, inr, List, Option, Some, None, refl, sym, ◌∙◌, ap, subst, arith}
+use Rattle.std.proofs.Common.{ℕ, ◌≡◌, ◌≢◌, ◌<◌, inl, inr, List, Some, sym, ◌∙◌, ap, subst, arith}
 use Rattle.std.proofs.lemmas.Bool.{cases_eq}
 use Rattle.dn_word.specs.Deed.{deed_of}
 use Rattle.dn_word.specs.declared.packed.deed.Deed.{Deed}
@@ -6,16 +6,14 @@ use Rattle.dn_act.specs.Action.{at_of, words_after}
 use Rattle.dn_act.specs.Words.{word_at}
 use Rattle.dn_act.specs.declared.actions.Action.{Action}
 use Rattle.dn_act.proofs.Words.{word_at-set_other}
-use Rattle.dn_hist.specs.declared.receipts.Receipt.{Receipt}
 use Rattle.dn_model.specs.Regions.{deed, deed_at}
 use Rattle.dn_monitor.specs.Monitor.{Monitoring, monitor_next}
 use Rattle.dn_beside.specs.Pool.{Pool, store_in, IsWhole}
-use Rattle.dn_orders.specs.Step.{IsOrderStep}
 use Rattle.dn_orders.proofs.Steps.{step}
 use Rattle.dn_callers.specs.Callers.{receipts_of}
 use Rattle.dn_machine.specs.State.{Machine}
 use Rattle.dn_machine.specs.Events.{found}
-use Rattle.dn_machine.specs.Sound.{IsMachineAt, IsSound}
+use Rattle.dn_machine.specs.Sound.{IsSound}
 use Rattle.dn_machine.proofs.Rest.{performs}
 use Rattle.dn_moves.specs.Grants.{Grants, HasLeft, IsFloor, IsGranted}
 use Rattle.dn_moves.specs.Unmerged.{IsUnmerged}

@@ -6,9 +6,8 @@ use Rattle.dn_word.specs.declared.packed.deed.DeedState.TheVariants.{Nobody, Own
 use Rattle.dn_word.specs.declared.packed.gate.Gate.{Gate}
 use Rattle.dn_hist.specs.Calls.{key_of}
 use Rattle.dn_hist.specs.declared.receipts.Receipt.{Receipt}
-use Rattle.dn_model.specs.Held.{is_authority}
 use Rattle.dn_model.specs.declared.logs.Placed.{Placed}
-use Rattle.dn_model.specs.Regions.{IsLane, gate, mark, deed, slot_of}
+use Rattle.dn_model.specs.Regions.{gate, deed}
 use Rattle.dn_model.proofs.MapLaws.{lane_or_not, one_log}
 use Rattle.dn_store.specs.State.{StoreState}
 use Rattle.dn_store.specs.Changes.{deeded}

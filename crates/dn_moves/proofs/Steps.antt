@@ -1,6 +1,5 @@
 use Rattle.std.proofs.Common.{ℕ, ◌≡◌, ◌<◌, inl, Bool, true, false, List, Option, Some, None, refl, sym, ◌∙◌, ap, subst}
 use Rattle.dn_word.specs.declared.packed.deed.Deed.{Deed}
-use Rattle.dn_act.specs.Action.{words_after}
 use Rattle.dn_act.specs.declared.actions.Action.{Action}
 use Rattle.dn_hist.specs.declared.calls.Call.{Call}
 use Rattle.dn_hist.specs.declared.receipts.SessionView.{SessionView}
@@ -22,7 +21,7 @@ use Rattle.dn_waiting.specs.declared.calls.Course.{Course}
 use Rattle.dn_waiting.specs.declared.calls.Course.TheVariants as course
 use Rattle.dn_waiting.specs.declared.calls.Next.{Next}
 use Rattle.dn_waiting.specs.declared.calls.Next.TheVariants.{Rest, Tend, Try}
-use Rattle.dn_outcomes.specs.Going.{called, told_of, end_of, goes_on, ends_of, ends}
+use Rattle.dn_outcomes.specs.Going.{called, told_of, end_of, goes_on, ends_of}
 use Rattle.dn_outcomes.specs.Sound.{IsWorld}
 use Rattle.dn_outcomes.specs.State.{World, with_event, with_waiting}
 use Rattle.dn_outcomes.specs.Steps.{by_turn, acts_by, acts_of, acts, takes_up, tends, tries, begins, steps_by, steps_of, step}

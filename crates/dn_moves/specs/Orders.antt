@@ -1,4 +1,4 @@
-use Rattle.std.specs.Prelude.{◌≡◌, ℕ, Bool, true, false, Option, Some, None}
+use Rattle.std.specs.Prelude.{◌≡◌, Bool, true, false, Option, Some, None}
 use Rattle.dn_monitor.specs.Monitor.{Monitoring, is_last}
 use Rattle.dn_monitor.specs.declared.orders.MonitorTurn.TheVariants.{Answered as Tells}
 use Rattle.dn_outcomes.specs.declared.events.Event.{Event}
