@@ -9,6 +9,7 @@ use Rattle.dn_outcomes.specs.State.{World, opened}
 use Rattle.dn_outcomes.specs.Told.{starts}
 use Rattle.dn_outcomes.specs.declared.events.Event.{Event}
 use Rattle.dn_outcomes.specs.declared.events.Event.TheVariants.{Add, Give, Monitor}
+use Rattle.dn_monitor.specs.Heirs.{no_heirs}
 use Rattle.dn_monitor.specs.declared.orders.Order.TheVariants.{Move}
 use Rattle.dn_outcomes.proofs.Numbers.{number_kept}
 use Rattle.dn_script.specs.Fit.{IsLine}
@@ -32,7 +33,7 @@ StartsNone k x = starts x.0 k ≡ false
 
 grant_none : (k slot lane : ℕ) → All (StartsNone k) (grants slot lane)
 grant_none k slot lane =
-    All-cons (StartsNone k) (Give (Move slot lane), []) ((Monitor, []) ∷ (Monitor, []) ∷ []) refl
+    All-cons (StartsNone k) (Give (Move slot lane), no_heirs) ((Monitor, []) ∷ (Monitor, []) ∷ []) refl
     (All-cons (StartsNone k) (Monitor, []) ((Monitor, []) ∷ []) refl (All-cons (StartsNone k) (Monitor, []) [] refl (All-nil (StartsNone k))))
 
 grants_none : (owners : ℕ → ℕ) (k n : ℕ) → All (StartsNone k) (grants_to owners n)

@@ -1,4 +1,4 @@
-use Rattle.std.specs.Prelude.{◌≡◌, ◌<◌, ◌≤◌, ◌^◌, ℕ, ◌+◌, Bool, true, false, List, [], Option, Some, None, All, not, length}
+use Rattle.std.specs.Prelude.{◌≡◌, ◌<◌, ◌≤◌, ◌^◌, ◌++◌, ℕ, ◌+◌, Bool, true, false, List, [], Option, Some, None, All, not, length}
 use Rattle.dn_callers.specs.Sessions.{IsSession}
 use Rattle.dn_outcomes.specs.Does.{does}
 use Rattle.dn_outcomes.specs.Sound.{IsWorld, MayHappen}
@@ -22,7 +22,7 @@ use Rattle.dn_run.specs.Doing.{Doing, Finish, Repeat, next_of, left_of}
 use Rattle.dn_run.specs.Going.{IsGoing}
 use Rattle.dn_run.specs.Happening.{happening, loads_of, receipt_if, makes_call}
 use Rattle.dn_run.specs.Run.{Run, run_of, IsBetween, answered_to, loader, after_steps}
-use Rattle.dn_run.specs.Text.{events_text}
+use Rattle.dn_run.specs.Text.{events_text, step_text}
 use Rattle.dn_run.specs.Uncalled.{IsUncalled}
 use Rattle.dn_play.specs.Tally.{added}
 use Rattle.dn_play.specs.declared.players.Player.{Player}
@@ -188,6 +188,10 @@ IsToSession o = (s : ℕ) → answered_to o ≡ Some s → IsSession s
 -- this event is next
 abbrev pub Awaits : Event → Run → Type 0
 Awaits e r = IsNext r e
+
+-- the event lines once what comes of a lane's action is printed behind them
+abbrev pub printed_step : Player → List ℕ → ℕ → Outcome → List ℕ
+printed_step p out n o = out ++ step_text n (receipt_if (makes_call o) p.world.history) o
 
 -- what is left by this outcome
 abbrev pub left_by : Outcome → Run → Doing

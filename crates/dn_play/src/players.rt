@@ -15,8 +15,8 @@ ghost use Rattle.dn_outcomes.specs.declared.events.Event.TheVariants as happens;
 ghost use Rattle.dn_outcomes.specs.Told.{is_made_by};
 ghost use Rattle.dn_run.specs.Text.{receipt_text, answer_text, step_text};
 ghost use Rattle.dn_world.specs.Comes.{has_failed};
-ghost use Rattle.dn_play.specs.At.{IsAt, IsCounted, CanGo, Goes, Halts, IsMoved, IsMovedBy, IsToSession, Awaits, Repeats, Finishes, Ends, event_by, doing_in, left_by, CanLoad, Stops, CountsStop, CanGive, Gives, StopsEvent, place_of, loads_by, refused_by, Undone, runs_on, Follow, Reaches, IsStarted, StopsOpening};
-ghost use Rattle.dn_play.specs.Tally.{HasRoom, added};
+ghost use Rattle.dn_play.specs.At.{IsAt, IsCounted, CanGo, Goes, Halts, IsMoved, IsMovedBy, IsToSession, Awaits, Repeats, Finishes, Ends, event_by, doing_in, left_by, CanLoad, Stops, CountsStop, CanGive, Gives, StopsEvent, place_of, loads_by, refused_by, refused_load, printed_step, Undone, runs_on, Follow, Reaches, IsStarted, StopsOpening};
+ghost use Rattle.dn_play.specs.Tally.{HasRoom, added, one_if};
 
 mod actions;
 
@@ -226,9 +226,47 @@ impl Player {
         }
     }
 
-    /// Counts an event that the world has done.
+    /// Counts an event that the world has done. Most end nothing, and only a load among these can refuse an attempt.
     #[inline(always)]
     fn count(&mut self, loader: Option<u32>, outcome: Outcome)
+        requires room { HasRoom self.old.counts }
+        requires loader { (s : ℕ) → loader ≡ Some s → IsSession s }
+        ensures { self.new ≡ record self.old {
+          counts = added self.old.counts outcome
+              (is_of_get (receipt_if (makes_call outcome) self.old.world.history))
+              (refused_by loader self.old.world.crew.waiting outcome);
+        } }
+    {
+        match outcome {
+            Outcome::Acted => self.count_load(loader),
+            _ => self.count_end(loader, outcome),
+        }
+    }
+
+    /// Counts an event that ended nothing: it has refused an attempt where it was a load that leaves the deed to be loaded.
+    #[inline(always)]
+    fn count_load(&mut self, loader: Option<u32>)
+        requires room { HasRoom self.old.counts }
+        requires loader { (s : ℕ) → loader ≡ Some s → IsSession s }
+        ensures { self.new ≡ record self.old {
+          counts = record self.old.counts {
+            refused = self.old.counts.refused
+                + one_if (refused_load loader self.old.world.crew.waiting);
+          };
+        } }
+    {
+        match loader {
+            Some(session) => {
+                let refused = self.loads(session);
+                self.counts.refused += u32::from(refused);
+            }
+            None => {}
+        }
+    }
+
+    /// Counts an event, whatever it ended.
+    #[inline(never)]
+    fn count_end(&mut self, loader: Option<u32>, outcome: Outcome)
         requires room { HasRoom self.old.counts }
         requires loader { (s : ℕ) → loader ≡ Some s → IsSession s }
         ensures { self.new ≡ record self.old {
@@ -403,18 +441,44 @@ impl Player {
         ensures count { OnOk result (M.faults mem.new ≡ M.faults mem.old) }
         ensures faults { IfErr result (CountsStop (M.faults mem.old) (M.faults mem.new)) }
     {
-        let outcome = match self.event(mem, Event::Step { lane }) {
-            Ok(outcome) => outcome,
-            Err(stop) => return Err(stop),
-        };
+        match self.event(mem, Event::Step { lane }) {
+            Ok(Outcome::Acted) => Ok(Outcome::Acted),
+            Ok(outcome) => match self.end_step(mem, out, lane, outcome) {
+                Ok(()) => Ok(outcome),
+                Err(stop) => Err(stop),
+            },
+            Err(stop) => Err(stop),
+        }
+    }
+
+    /// What comes of a lane's action is printed, and the session of an attempt that it has refused loads the deed. Most actions
+    /// end nothing, and don't come here.
+    #[inline(never)]
+    fn end_step<M: Memory>(
+        &mut self,
+        mem: &mut M,
+        out: &mut Vec<u8>,
+        lane: u8,
+        outcome: Outcome,
+    ) -> Result<(), Stop>
+        requires can { CanGo (M.words mem.old) self.old
+            (printed_step self.old out.old.items lane outcome) (IsMovedBy outcome) }
+        requires session { IsToSession outcome }
+        ensures goes { OnOk result (Goes (M.words mem.old) self.old
+            (printed_step self.old out.old.items lane outcome) (M.words mem.new) self.new
+            out.new.items (IsMovedBy outcome) doing_in) }
+        ensures halts { IfErr result (Halts (M.words mem.old) self.old
+            (printed_step self.old out.old.items lane outcome) (M.words mem.new) self.new
+            out.new.items (IsMovedBy outcome)) }
+        ensures more { OnOk result (self.old.events ≤ self.new.events) }
+        ensures count { OnOk result (M.faults mem.new ≡ M.faults mem.old) }
+        ensures faults { IfErr result (CountsStop (M.faults mem.old) (M.faults mem.new)) }
+    {
         match self.print_step(out, lane, outcome) {
             Ok(()) => {}
             Err(stop) => return Err(stop),
         }
-        match self.load_answered(mem, out, outcome) {
-            Ok(()) => Ok(outcome),
-            Err(stop) => Err(stop),
-        }
+        self.load_answered(mem, out, outcome)
     }
 
     /// A session starts a call, and loads its deed where it knows no route.

@@ -1,6 +1,7 @@
 use Rattle.std.proofs.Common.{ℕ, zero, suc, ◌≡◌, List, [], ◌∷◌, ◌++◌, All, ◌∙◌, ap}
 use Rattle.std.proofs.lemmas.List.Elements.{All-nil, All-cons, All-append, All-replicate}
 use Rattle.dn_callers.specs.Callers.{Callers}
+use Rattle.dn_monitor.specs.Heirs.{no_heirs}
 use Rattle.dn_monitor.specs.declared.orders.Order.TheVariants.{Move}
 use Rattle.dn_outcomes.specs.Runs.{after}
 use Rattle.dn_outcomes.specs.State.{World, opened}
@@ -15,7 +16,7 @@ use Rattle.dn_world.specs.State.{WorldState, world_of}
 
 grant_quiet : (slot lane : ℕ) → All IsQuiet (grants slot lane)
 grant_quiet slot lane =
-    All-cons IsQuiet (Give (Move slot lane), []) ((Monitor, []) ∷ (Monitor, []) ∷ []) tt
+    All-cons IsQuiet (Give (Move slot lane), no_heirs) ((Monitor, []) ∷ (Monitor, []) ∷ []) tt
     (All-cons IsQuiet (Monitor, []) ((Monitor, []) ∷ []) tt (All-cons IsQuiet (Monitor, []) [] tt (All-nil IsQuiet)))
 
 grants_quiet : (owners : ℕ → ℕ) (n : ℕ) → All IsQuiet (grants_to owners n)
