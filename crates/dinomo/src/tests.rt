@@ -34,7 +34,7 @@ map 1
 ";
 
 /// Scripts, and how their outputs begin and end.
-const ROWS: [(&str, &str, &str); 13] = [
+const ROWS: [(&str, &str, &str); 21] = [
     (
         "c1 put 5 =a\nc1 put 5 =b\nc1 put 5 =c\nmerge 1 10\nc1 get 5\n",
         "c1 1 stored 1.0.1\nc1 2 stored 2.0.1\nc1 3 stored 3.0.1\nc1 4 =c 3.1.1\nhistory 4\n",
@@ -106,6 +106,52 @@ const ROWS: [(&str, &str, &str); 13] = [
         "c1 put 5 =a\nmerge 1 2\ntrim 1\ntrim 2\nc1 get 5\n",
         "c1 1 stored 1.0.1\nnolane 2\nc1 2 =a 1.1.1\nhistory 2\n",
         "lane 1 live stamp 1 len 3 mark 3\ncalls 2 made 2 refused 0 unanswered 0 given 0\nways value 0 shortcut 0 pending 1 index 0 cell 0\nmap 1\n",
+    ),
+    (
+        "c1 put 5 =a\nmerge 1 12\ntrim 1\nc1 get 5\n",
+        "c1 1 stored 1.0.1\nc1 2 =a 1.1.1\nhistory 2\n",
+        "ways value 0 shortcut 0 pending 0 index 1 cell 0\nmap 1\n",
+    ),
+    // an old route
+    (
+        "add\nc2 put 5 =a\nc1 put 5 =b\nmove 5 2\nc2 get 5\n",
+        "lane 2\nc2 1 stored 1.0.2\nc1 1 stored 2.0.1\nmove 5 2 granted 4000010100000002\nc2 2 notowner 4000010100000002 -\nc2 2 =b 3.0.2\nhistory 3\n1.0.2 1 put 5 =a stored\n2.0.1 1 put 5 =b stored\n3.0.2 2 get 5 =b\n",
+        "lane 1 live stamp 2 len 6 mark 6\nlane 2 live stamp 3 len 0 mark 0\ncalls 3 made 3 refused 1 unanswered 0 given 0\nways value 0 shortcut 0 pending 0 index 1 cell 0\nmap 1\n",
+    ),
+    // an order that waits for the mark
+    (
+        "add\nc1 put 5 =a\nstart move 5 2\nmonitor 2\nstep 1 2\nmonitor 3\nmerge 1 12\nmonitor 2\n",
+        "lane 2\nc1 1 stored 1.0.1\nmove 5 2 waiting 0 3\nmove 5 2 granted 4000010100000001\nhistory 1\n",
+        "map 1\n",
+    ),
+    // a slot that leaves and returns
+    (
+        "add\nc1 put 5 =a\nmove 5 2\nc2 put 5 =b\nmove 5 1\nc1 get 5\n",
+        "lane 2\nc1 1 stored 1.0.1\nmove 5 2 granted 4000010100000001\nc2 1 stored 2.0.2\nmove 5 1 granted 4000018080000002\nc1 2 =b 3.0.1\nhistory 3\n",
+        "ways value 0 shortcut 0 pending 0 index 1 cell 0\nmap 1\n",
+    ),
+    // a slot that is the target's already
+    (
+        "move 5 1\n",
+        "move 5 1 granted 4000008080000000\nhistory 0\n",
+        "map 0\n",
+    ),
+    // orders at once, and a lane that wasn't made
+    (
+        "add\nmove 5 3\nstart move 5 2\nmove 6 2\nstart move 7 2\nmove 5 3\n",
+        "lane 2\nnolane 3\nmonitor busy\nmonitor busy\nnolane 3\nhistory 0\n",
+        "map 0\n",
+    ),
+    // calls that wait while a slot moves
+    (
+        "add\nc1 put 5 =a\nc1 start put 5 =b\nmove 5 2\nc2 get 5\nstep 1 20\nstep 2 20\n",
+        "lane 2\nc1 1 stored 1.0.1\nmove 5 2 granted 4000010100000001\nc2 1 =a 2.0.2\nc1 2 notowner 4000010100000001 -\nc1 2 stored 3.0.1\nhistory 3\n",
+        "map 1\n",
+    ),
+    (
+        "monitor\nmonitor 3\nc1 get 5\n",
+        "c1 1 absent 0.1.1\nhistory 1\n",
+        "map 0\n",
     ),
 ];
 
@@ -197,7 +243,7 @@ fn scripts_end_by_their_status(rt: HostRuntime) -> Result<(), Fail> {
         ),
         (
             "play",
-            "monitor\n",
+            "balance\n",
             0,
             0,
             Status::BadScript,
@@ -224,6 +270,21 @@ fn outputs_begin_and_end(rt: HostRuntime) -> Result<(), Fail> {
             "{script}"
         );
         assert!(rt; ended.sink.bytes().ends_with(end.as_bytes()), "{script}");
+    }
+    Ok(())
+}
+
+#[test]
+fn a_slot_moves_while_its_lane_makes_a_put(rt: HostRuntime) -> Result<(), Fail> {
+    let begin =
+        "lane 2\nc1 1 stored 1.0.1\nc1 2 stored 2.0.1\nmove 5 2 granted 4000010100000002\nc2 1 =b 3.0.2\nhistory 3\n";
+    for steps in 1..16u32 {
+        let script = format!(in rt.alloc();
+            "add\nc1 put 5 =a\nc1 start put 5 =b\nstep 1 {steps}\nmove 5 2\nc2 get 5\n"
+        )?;
+        let ended = run_word(rt.alloc(), "play", script.as_bytes(), 1024, 0, 0)?;
+        assert_eq!(rt; ended.status, Status::Ok, "{steps}");
+        assert!(rt; ended.sink.bytes().starts_with(begin.as_bytes()), "{steps}");
     }
     Ok(())
 }

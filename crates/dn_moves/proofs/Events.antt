@@ -188,6 +188,7 @@ changes w (event.Merge n) heirs t h lt = (merge_event w n heirs h).deeds t lt
 changes w event.Monitor heirs t h lt = monitor_changes w t h lt
 changes w (event.Refresh s) heirs t h lt = (refresh_at (Still w) w s (same_deeds w.machine)).deeds t lt
 changes w (event.Give o) heirs t h lt = ap (λ ws. deed ws t) (give_words w o heirs)
+changes w event.DropOrder heirs t h lt = refl
 changes w (event.Queue n task) heirs t h lt = (queue_event w n task heirs).deeds t lt
 changes w event.Add heirs t h lt = (adds_at (Still w) w (same_deeds w.machine)).deeds t lt
 changes w (event.Tell s k) heirs t h lt = (tells_at (Still w) w s k (same_deeds w.machine)).deeds t lt

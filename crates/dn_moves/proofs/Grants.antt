@@ -30,6 +30,7 @@ by_monitor w (event.Merge n) heirs t h lt g = absurd (equal_not _ _ (changes w (
 by_monitor w event.Monitor heirs t h lt g = refl
 by_monitor w (event.Refresh s) heirs t h lt g = absurd (equal_not _ _ (changes w (event.Refresh s) heirs t h lt) g)
 by_monitor w (event.Give o) heirs t h lt g = absurd (equal_not _ _ (changes w (event.Give o) heirs t h lt) g)
+by_monitor w event.DropOrder heirs t h lt g = absurd (equal_not _ _ (changes w event.DropOrder heirs t h lt) g)
 by_monitor w (event.Queue n task) heirs t h lt g = absurd (equal_not _ _ (changes w (event.Queue n task) heirs t h lt) g)
 by_monitor w event.Add heirs t h lt g = absurd (equal_not _ _ (changes w event.Add heirs t h lt) g)
 by_monitor w (event.Tell s k) heirs t h lt g = absurd (equal_not _ _ (changes w (event.Tell s k) heirs t h lt) g)

@@ -13,7 +13,7 @@ use Rattle.dn_outcomes.specs.State.{World, done}
 use Rattle.dn_outcomes.specs.declared.events.Event.{Event}
 use Rattle.dn_outcomes.specs.declared.events.Event.TheVariants as event
 use Rattle.dn_outcomes.specs.declared.outcomes.Outcome.TheVariants.{NoLane}
-use Rattle.dn_moves.specs.Orders.{is_monitor, ends_order, OrderAfter}
+use Rattle.dn_moves.specs.Orders.{moves_order, ends_order, OrderAfter}
 use Rattle.dn_moves.proofs.Events.{Still, start_at, refresh_at, tells_at, adds_at, same_deeds, step_event, flow_event, merge_event, queue_event, acted_at}
 
 -- An order is under way until its last answer, and moves by the monitor alone.
@@ -29,7 +29,7 @@ give_leaves w o heirs x is = by_may (may_order w o) where
   by_may true = by_order w.machine.monitor refl
   by_may false = refl
 
-pub order_stays : (w : World) (e : Event) (heirs : List ℕ) (x : Monitoring) → IsWorld w → w.machine.monitor ≡ Some x → is_monitor e ≡ false → (does w e heirs).world.machine.monitor ≡ Some x
+pub order_stays : (w : World) (e : Event) (heirs : List ℕ) (x : Monitoring) → IsWorld w → w.machine.monitor ≡ Some x → moves_order e ≡ false → (does w e heirs).world.machine.monitor ≡ Some x
 order_stays w (event.Start s lane call) heirs x h is other = (start_at (Still w) w s lane call (same_deeds w.machine)).order ∙ is
 order_stays w (event.Step n) heirs x h is other = (step_event w n heirs h).order ∙ is
 order_stays w (event.Flow n index) heirs x h is other = (flow_event w n index heirs h).order ∙ is
@@ -37,6 +37,7 @@ order_stays w (event.Merge n) heirs x h is other = (merge_event w n heirs h).ord
 order_stays w event.Monitor heirs x h is other = absurd (cc other)
 order_stays w (event.Refresh s) heirs x h is other = (refresh_at (Still w) w s (same_deeds w.machine)).order ∙ is
 order_stays w (event.Give o) heirs x h is other = give_leaves w o heirs x is ∙ is
+order_stays w event.DropOrder heirs x h is other = absurd (cc other)
 order_stays w (event.Queue n task) heirs x h is other = (queue_event w n task heirs).order ∙ is
 order_stays w event.Add heirs x h is other = (adds_at (Still w) w (same_deeds w.machine)).order ∙ is
 order_stays w (event.Tell s k) heirs x h is other = (tells_at (Still w) w s k (same_deeds w.machine)).order ∙ is

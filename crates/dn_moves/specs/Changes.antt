@@ -25,6 +25,7 @@ Changes (event.Merge n) old new = new ≡ old
 Changes event.Monitor old new = Moves old new
 Changes (event.Refresh s) old new = new ≡ old
 Changes (event.Give o) old new = new ≡ old
+Changes event.DropOrder old new = new ≡ old
 Changes (event.Queue n t) old new = new ≡ old
 Changes event.Add old new = new ≡ old
 Changes (event.Tell s t) old new = new ≡ old

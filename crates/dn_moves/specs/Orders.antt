@@ -16,9 +16,24 @@ is_monitor (event.Merge n) = false
 is_monitor event.Monitor = true
 is_monitor (event.Refresh s) = false
 is_monitor (event.Give o) = false
+is_monitor event.DropOrder = false
 is_monitor (event.Queue n t) = false
 is_monitor event.Add = false
 is_monitor (event.Tell s t) = false
+
+-- the monitor makes an action, or its order is given up
+abbrev pub moves_order : Event → Bool
+moves_order (event.Start s lane call) = false
+moves_order (event.Step n) = false
+moves_order (event.Flow n index) = false
+moves_order (event.Merge n) = false
+moves_order event.Monitor = true
+moves_order (event.Refresh s) = false
+moves_order (event.Give o) = false
+moves_order event.DropOrder = true
+moves_order (event.Queue n t) = false
+moves_order event.Add = false
+moves_order (event.Tell s t) = false
 
 -- the last answer of an order
 abbrev pub ends_order : Outcome → Bool

@@ -13,7 +13,7 @@ ghost use Rattle.dn_outcomes.specs.declared.events.Event.TheVariants as event;
 ghost use Rattle.dn_outcomes.specs.declared.events.Event.{Event};
 ghost use Rattle.dn_moves.specs.Changes.{Changes};
 ghost use Rattle.dn_moves.specs.Grants.{Grants, IsGranted};
-ghost use Rattle.dn_moves.specs.Orders.{is_monitor, ends_order, OrderAfter};
+ghost use Rattle.dn_moves.specs.Orders.{is_monitor, moves_order, ends_order, OrderAfter};
 ghost use Rattle.dn_moves.specs.Stamps.{bound_in};
 ghost use Rattle.dn_moves.specs.Unmerged.{IsUnmerged};
 
@@ -37,11 +37,11 @@ pub fn grants()
         (receipts_of w.machine.callers.receipts) t }
 {}
 
-/// While an order is under way, no event but the monitor's moves it; and that one leaves it under way, or ends it by the last
-/// answer.
+/// While an order is under way, no event but the monitor's and the one that gives it up moves it; and the monitor's leaves it
+/// under way, or ends it by the last answer.
 pub fn orders()
     ensures stays { (w : World) (e : Event) (heirs : List ℕ) (x : Monitoring) → IsWorld w
-        → w.machine.monitor ≡ Some x → is_monitor e ≡ false
+        → w.machine.monitor ≡ Some x → moves_order e ≡ false
         → (does w e heirs).world.machine.monitor ≡ Some x }
     ensures ends { (w : World) (heirs : List ℕ) (x : Monitoring) → w.machine.monitor ≡ Some x
         → OrderAfter (ends_order (does w event.Monitor heirs).outcome)

@@ -182,6 +182,7 @@ effect w (event.Merge n) heirs held h holds = lane_effect w n (merge w n) held h
 effect w event.Monitor heirs held h holds = monitor_effect w held h holds
 effect w (event.Refresh s) heirs held h holds = refresh_effect w s held holds
 effect w (event.Give o) heirs held h holds = give_effect w o heirs held holds
+effect w event.DropOrder heirs held h holds = holds
 effect w (event.Queue n t) heirs held h holds = lane_effect w n (queues w n t (w.machine.lanes n)) held holds (λ e. queues_effect w n t (w.machine.lanes n) held holds)
 effect w event.Add heirs held h holds = adds_effect w held holds
 effect w (event.Tell s t) heirs held h holds = tells_effect w s t held holds

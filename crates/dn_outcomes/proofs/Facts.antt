@@ -10,7 +10,6 @@ use Rattle.dn_hist.specs.Calls.{key_of}
 use Rattle.dn_hist.specs.declared.calls.Call.{Call}
 use Rattle.dn_hist.specs.declared.calls.Call.TheVariants.{Get, Put, Delete}
 use Rattle.dn_hist.specs.declared.receipts.SessionView.{SessionView}
-use Rattle.dn_merge.specs.Merge.{Merging}
 use Rattle.dn_model.specs.Regions.{IsLane}
 use Rattle.dn_tend.specs.declared.tasks.Task.{Task}
 use Rattle.dn_lane.specs.Left.{is_working}

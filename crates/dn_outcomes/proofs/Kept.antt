@@ -7,7 +7,7 @@ use Rattle.dn_outcomes.specs.Steps.{step, flow, merge}
 use Rattle.dn_outcomes.specs.declared.events.Event.{Event}
 use Rattle.dn_outcomes.specs.declared.events.Event.TheVariants as event
 use Rattle.dn_outcomes.proofs.Facts.{made_lane, made_most}
-use Rattle.dn_outcomes.proofs.Others.{on_lane_kept, queues_kept, flow_kept, merge_kept, monitor_kept, give_kept, adds_kept}
+use Rattle.dn_outcomes.proofs.Others.{on_lane_kept, queues_kept, flow_kept, merge_kept, monitor_kept, give_kept, drops_kept, adds_kept}
 use Rattle.dn_outcomes.proofs.Sessions.{start_kept, refresh_kept, tells_kept}
 use Rattle.dn_outcomes.proofs.Steps.{step_kept}
 
@@ -21,6 +21,7 @@ kept w (event.Merge n) heirs h may = on_lane_kept w n (merge w n) h (λ e. merge
 kept w event.Monitor heirs h may = monitor_kept w h
 kept w (event.Refresh s) heirs h may = refresh_kept w s h may
 kept w (event.Give o) heirs h may = give_kept w o heirs h may.0 may.1
+kept w event.DropOrder heirs h may = drops_kept w h
 kept w (event.Queue n t) heirs h may = on_lane_kept w n (queues w n t (w.machine.lanes n)) h (λ e. queues_kept w n t (w.machine.lanes n) h (made_lane w n h e) may)
 kept w event.Add heirs h may = adds_kept w h
 kept w (event.Tell s t) heirs h may = tells_kept w s t h may.0 may.1

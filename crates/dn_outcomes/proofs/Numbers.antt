@@ -13,7 +13,7 @@ use Rattle.dn_store.proofs.At.{at_other}
 use Rattle.dn_tend.specs.declared.tasks.Task.{Task}
 use Rattle.dn_lane.specs.Left.{is_working}
 use Rattle.dn_lane.specs.Next.{next_of}
-use Rattle.dn_lane.specs.State.{LaneState, begun}
+use Rattle.dn_lane.specs.State.{LaneState}
 use Rattle.dn_lane.specs.Turns.{turn_of}
 use Rattle.dn_lane.specs.declared.answers.Turn.{Turn}
 use Rattle.dn_lane.specs.declared.answers.Turn.TheVariants.{More, Done as Ended, Tended as EndedTask}
@@ -230,6 +230,7 @@ number_kept w (event.Merge n) heirs k e = on_lane_same w n (merge w n) k (merge_
 number_kept w event.Monitor heirs k e = monitor_same w k
 number_kept w (event.Refresh s) heirs k e = refresh_same w s k
 number_kept w (event.Give o) heirs k e = give_same w o heirs k
+number_kept w event.DropOrder heirs k e = refl
 number_kept w (event.Queue n t) heirs k e = on_lane_same w n (queues w n t (w.machine.lanes n)) k (queues_same w n t (w.machine.lanes n) k)
 number_kept w event.Add heirs k e = adds_same w k
 number_kept w (event.Tell s t) heirs k e = tells_same w s t k

@@ -17,7 +17,7 @@ use Rattle.dn_tend.specs.declared.tasks.Task.TheVariants.{Release}
 use Rattle.dn_lane.specs.State.{LaneState, fresh}
 use Rattle.dn_lane.specs.Turns.{flowed_of}
 use Rattle.dn_lanes.specs.Begun.{IsOwnTask}
-use Rattle.dn_machine.specs.Events.{Merger, Monitor, Acts, Flows, Adds, Orders, acted, found, of_lane, with_lane, lane_flows, of_merger, with_merger, of_monitor, monitor_does, happens}
+use Rattle.dn_machine.specs.Events.{Merger, Monitor, Acts, Flows, Adds, Orders, Drops, acted, found, of_lane, with_lane, lane_flows, of_merger, with_merger, of_monitor, monitor_does, happens}
 use Rattle.dn_machine.specs.Sound.{IsSound}
 use Rattle.dn_machine.specs.State.{Machine}
 use Rattle.dn_machine.proofs.Kept.{sound}
@@ -29,7 +29,7 @@ use Rattle.dn_waiting.proofs.Changes.{tasked_sound}
 use Rattle.dn_outcomes.specs.State.{World, done, with_event, with_waiting, is_made, on_lane, Done}
 use Rattle.dn_outcomes.specs.Does.{queues, adds_lane, adds}
 use Rattle.dn_outcomes.specs.declared.leaving.Leaving.{Leaving}
-use Rattle.dn_outcomes.specs.Orders.{leaves_by, release_at, release, fenced_by, unlive, orders_by, orders_of, monitor, may_order, gives_beside, give}
+use Rattle.dn_outcomes.specs.Orders.{leaves_by, release_at, release, fenced_by, unlive, orders_by, orders_of, monitor, may_order, gives_beside, give, drops}
 use Rattle.dn_outcomes.specs.Steps.{flow_by, flow_at, flow, merges, merge}
 use Rattle.dn_outcomes.specs.Sound.{IsTake, TakesSo, view_at, AreMade, AreLive, IsWorld}
 use Rattle.dn_outcomes.specs.declared.outcomes.Outcome.TheVariants.{NoLane, LanesFull}
@@ -201,6 +201,10 @@ give_kept w o heirs h fits take = by_may (may_order w o) refl where
   by_may : (b : Bool) → may_order w o ≡ b → IsWorld (if b then gives_beside w o heirs w.machine.monitor else done w NoLane).world
   by_may true e = by_order e w.machine.monitor refl
   by_may false e = h
+
+-- ---- or its order is given up
+pub drops_kept : (w : World) → IsWorld w → IsWorld (drops w).world
+drops_kept w h = record { machine = sound w.segments w.machine Drops h.machine tt; waiting = h.waiting; calls = h.calls; asked = h.asked; made = h.made; live = h.live }
 
 -- ---- a lane is added
 added_made : (made n : ℕ) (mergers : ℕ → Option Merging) (x : Merging) → AreMade made mergers → n ≡ made + 1 → n ≤ 63 → AreMade n (with_at mergers n (Some x))

@@ -28,7 +28,7 @@ use Rattle.dn_waiting.specs.declared.calls.Next.TheVariants.{Rest, Tend, Try}
 use Rattle.dn_waiting.specs.declared.calls.OpenCall.{OpenCall}
 use Rattle.dn_outcomes.specs.Does.{queues, adds_lane, tells_unless, does}
 use Rattle.dn_outcomes.specs.Going.{called, told_of, ends_of}
-use Rattle.dn_outcomes.specs.Orders.{told_by as monitor_told, orders_by, orders_of, monitor, may_order, gives_beside, give}
+use Rattle.dn_outcomes.specs.Orders.{told_by as monitor_told, orders_by, orders_of, monitor, may_order, gives_beside, give, drops}
 use Rattle.dn_outcomes.specs.Refusals.{refused_by, first, unmade, refusal}
 use Rattle.dn_outcomes.specs.Starts.{given_by, routes, start_unless, start_beside, start, refresh_of, refresh}
 use Rattle.dn_outcomes.specs.State.{World, Done, done, with_event, is_made, may_name, on_lane}
@@ -185,6 +185,7 @@ refusals w (event.Merge n) heirs = lane_by w n (merge w n) (merges_free w n (w.m
 refusals w event.Monitor heirs = free w (monitor w) (monitor_free w w.machine.monitor)
 refusals w (event.Refresh s) heirs = free w (refresh w s) (refresh_free w s (w.machine.loads s))
 refusals w (event.Give o) heirs = give_by w o heirs
+refusals w event.DropOrder heirs = free w (drops w) refl
 refusals w (event.Queue n t) heirs = lane_by w n (queues w n t (w.machine.lanes n)) (queues_free w n t (w.machine.lanes n))
 refusals w event.Add heirs = by_test (nat_lt w.made 63) where
   by_test : (b : Bool) → IsBy w (if b then adds_lane w (w.made + 1) else done w LanesFull) (first (not b) LanesFull None)

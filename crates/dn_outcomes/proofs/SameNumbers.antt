@@ -17,9 +17,6 @@ use Rattle.dn_lanes.specs.Stepped.{receipt_by}
 use Rattle.dn_callers.specs.Callers.{Callers}
 use Rattle.dn_machine.specs.Events.{Lane, Merger, Monitor, Session, Acts, Flows, found, answered, lane_does, lane_flows, of_lane, of_merger, of_monitor, monitor_does, loaded, with_lane, with_merger, acted, happens, Tends, Asks}
 use Rattle.dn_machine.specs.State.{Machine}
-use Rattle.dn_waiting.specs.declared.calls.Course.TheVariants as course
-use Rattle.dn_outcomes.specs.Orders.{monitor}
-use Rattle.dn_outcomes.specs.declared.events.Event.TheVariants as event
 
 -- What happens to a machine changes the number of no session, but where one gives a call its number.
 

@@ -13,14 +13,14 @@ use Rattle.dn_tend.specs.declared.tasks.Task.{Task}
 use Rattle.dn_tend.specs.declared.tasks.Task.TheVariants.{Release}
 use Rattle.dn_lane.specs.State.{LaneState}
 use Rattle.dn_callers.specs.Sessions.{IsSession}
-use Rattle.dn_machine.specs.Events.{Merger, Monitor, Acts, Flows, Tells, found, acted, with_merger, of_merger, of_monitor, monitor_does}
+use Rattle.dn_machine.specs.Events.{Merger, Monitor, Acts, Flows, Drops, Tells, found, acted, with_merger, of_merger, of_monitor, monitor_does}
 use Rattle.dn_machine.specs.State.{Machine}
 use Rattle.dn_waiting.specs.Queues.{is_queued}
 use Rattle.dn_waiting.specs.State.{call_of, at_lane}
 use Rattle.dn_waiting.specs.Turns.{tasked}
 use Rattle.dn_outcomes.specs.Does.{queues, adds_lane, adds, tells_unless, tells, does}
 use Rattle.dn_outcomes.specs.declared.leaving.Leaving.{Leaving}
-use Rattle.dn_outcomes.specs.Orders.{leaves_by, release_at, release, fenced_by, unlive, told_by as monitor_told, orders_by, orders_of, monitor, may_order, gives_beside, give}
+use Rattle.dn_outcomes.specs.Orders.{leaves_by, release_at, release, fenced_by, unlive, told_by as monitor_told, orders_by, orders_of, monitor, may_order, gives_beside, give, drops}
 use Rattle.dn_outcomes.specs.Sound.{MayHappen, IsWorld}
 use Rattle.dn_outcomes.specs.Starts.{session_at}
 use Rattle.dn_outcomes.specs.State.{World, Done, done, with_event, with_waiting, is_made, on_lane}
@@ -101,6 +101,9 @@ give_told w o heirs = by_may (may_order w o) where
   by_may true = by_order w.machine.monitor
   by_may false = record { receipts = refl; calls = calm_goes w w calm; names = tt }
 
+drops_told : (w : World) → IsTold w (drops w)
+drops_told w = told_acted w (with_event w Drops) (calm_same w (with_event w Drops) refl refl)
+
 -- ---- mergers, flows, tasks and lanes
 merger_outcome : (w now : World) (t : MergeTurn) → IsCalm w now → IsTold w (done now (merger_told t))
 merger_outcome w now merging.More h = told_acted w now h
@@ -159,6 +162,7 @@ IsOther (event.Merge n) = Unit {0}
 IsOther event.Monitor = Unit {0}
 IsOther (event.Refresh s) = Unit {0}
 IsOther (event.Give o) = Unit {0}
+IsOther event.DropOrder = Unit {0}
 IsOther (event.Queue n t) = Unit {0}
 IsOther event.Add = Unit {0}
 IsOther (event.Tell s t) = Unit {0}
@@ -171,6 +175,7 @@ tells_so w (event.Merge n) heirs h may o = lane_told w n (merge w n) (λ e. merg
 tells_so w event.Monitor heirs h may o = monitor_tells w
 tells_so w (event.Refresh s) heirs h may o = refresh_told w s h may
 tells_so w (event.Give o) heirs h may other = give_told w o heirs
+tells_so w event.DropOrder heirs h may o = drops_told w
 tells_so w (event.Queue n t) heirs h may o = lane_told w n (queues w n t (w.machine.lanes n)) (λ e. queues_told w n t (w.machine.lanes n))
 tells_so w event.Add heirs h may o = adds_told w
 tells_so w (event.Tell s t) heirs h may o = tells_told w s t
@@ -183,6 +188,7 @@ receipts_so w (event.Merge n) heirs h may = (tells_so w (event.Merge n) heirs h 
 receipts_so w event.Monitor heirs h may = (tells_so w event.Monitor heirs h may tt).receipts
 receipts_so w (event.Refresh s) heirs h may = (tells_so w (event.Refresh s) heirs h may tt).receipts
 receipts_so w (event.Give o) heirs h may = (tells_so w (event.Give o) heirs h may tt).receipts
+receipts_so w event.DropOrder heirs h may = (tells_so w event.DropOrder heirs h may tt).receipts
 receipts_so w (event.Queue n t) heirs h may = (tells_so w (event.Queue n t) heirs h may tt).receipts
 receipts_so w event.Add heirs h may = (tells_so w event.Add heirs h may tt).receipts
 receipts_so w (event.Tell s t) heirs h may = (tells_so w (event.Tell s t) heirs h may tt).receipts
@@ -195,6 +201,7 @@ names_so w (event.Merge n) heirs h may = (tells_so w (event.Merge n) heirs h may
 names_so w event.Monitor heirs h may = (tells_so w event.Monitor heirs h may tt).names
 names_so w (event.Refresh s) heirs h may = (tells_so w (event.Refresh s) heirs h may tt).names
 names_so w (event.Give o) heirs h may = (tells_so w (event.Give o) heirs h may tt).names
+names_so w event.DropOrder heirs h may = (tells_so w event.DropOrder heirs h may tt).names
 names_so w (event.Queue n t) heirs h may = (tells_so w (event.Queue n t) heirs h may tt).names
 names_so w event.Add heirs h may = (tells_so w event.Add heirs h may tt).names
 names_so w (event.Tell s t) heirs h may = (tells_so w (event.Tell s t) heirs h may tt).names
@@ -211,6 +218,7 @@ calls_so w (event.Merge n) heirs k h may e = (tells_so w (event.Merge n) heirs h
 calls_so w event.Monitor heirs k h may e = (tells_so w event.Monitor heirs h may tt).calls k
 calls_so w (event.Refresh s) heirs k h may e = (tells_so w (event.Refresh s) heirs h may tt).calls k
 calls_so w (event.Give o) heirs k h may e = (tells_so w (event.Give o) heirs h may tt).calls k
+calls_so w event.DropOrder heirs k h may e = (tells_so w event.DropOrder heirs h may tt).calls k
 calls_so w (event.Queue n t) heirs k h may e = (tells_so w (event.Queue n t) heirs h may tt).calls k
 calls_so w event.Add heirs k h may e = (tells_so w event.Add heirs h may tt).calls k
 calls_so w (event.Tell s t) heirs k h may e = (tells_so w (event.Tell s t) heirs h may tt).calls k

@@ -9,7 +9,7 @@ use Rattle.dn_outcomes.specs.declared.outcomes.Outcome.TheVariants.{Nothing, Act
 use Rattle.dn_outcomes.specs.State.{World, Done, done, with_event, with_waiting, on_lane}
 use Rattle.dn_outcomes.specs.Starts.{session_at, start, refresh}
 use Rattle.dn_outcomes.specs.Steps.{step, flow, merge}
-use Rattle.dn_outcomes.specs.Orders.{monitor, give}
+use Rattle.dn_outcomes.specs.Orders.{monitor, give, drops}
 
 -- What an event does to a world.
 
@@ -42,6 +42,7 @@ does w (event.Merge n) heirs = on_lane w n (merge w n)
 does w event.Monitor heirs = monitor w
 does w (event.Refresh s) heirs = refresh w s
 does w (event.Give o) heirs = give w o heirs
+does w event.DropOrder heirs = drops w
 does w (event.Queue n t) heirs = on_lane w n (queues w n t (w.machine.lanes n))
 does w event.Add heirs = adds w
 does w (event.Tell s t) heirs = tells w s t

@@ -3,6 +3,7 @@ pub mod Going
 pub mod Starts
 pub mod Steps
 pub mod Orders
+pub mod Awaited
 pub mod Does
 pub mod Refusals
 pub mod Sound

@@ -14,7 +14,7 @@ use Rattle.dn_monitor.specs.declared.orders.MonitorAnswer.TheVariants as told
 use Rattle.dn_monitor.specs.declared.orders.MonitorTurn.{MonitorTurn}
 use Rattle.dn_monitor.specs.declared.orders.MonitorTurn.TheVariants as turn
 use Rattle.dn_lane.specs.State.{LaneState}
-use Rattle.dn_machine.specs.Events.{Monitor, Acts, Orders, found}
+use Rattle.dn_machine.specs.Events.{Monitor, Acts, Orders, Drops, found}
 use Rattle.dn_waiting.specs.Turns.{released}
 use Rattle.dn_outcomes.specs.declared.leaving.Leaving.{Leaving}
 use Rattle.dn_outcomes.specs.declared.outcomes.Outcome.{Outcome}
@@ -123,3 +123,7 @@ gives_beside w o heirs (Some x) = done w MonitorBusy
 
 abbrev pub give : World → Order → List ℕ → Done
 give w o heirs = if may_order w o then gives_beside w o heirs w.machine.monitor else done w NoLane
+
+-- ---- the order under way is given up, if there is one
+abbrev pub drops : World → Done
+drops w = done (with_event w Drops) Acted

@@ -44,6 +44,7 @@ refusal w (event.Merge n) = unmade w n
 refusal w event.Monitor = None
 refusal w (event.Refresh s) = None
 refusal w (event.Give o) = first (not (may_order w o)) outcome.NoLane (first (is_some w.machine.monitor) outcome.MonitorBusy None)
+refusal w event.DropOrder = None
 refusal w (event.Queue n t) = unmade w n
 refusal w event.Add = first (not (nat_lt w.made 63)) outcome.LanesFull None
 refusal w (event.Tell s t) = None

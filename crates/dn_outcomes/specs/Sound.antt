@@ -150,6 +150,7 @@ MayHappen w (event.Merge n) heirs = Unit {0}
 MayHappen w event.Monitor heirs = Unit {0}
 MayHappen w (event.Refresh s) heirs = IsSession s
 MayHappen w (event.Give o) heirs = IsOrder o × TakesSo w o heirs
+MayHappen w event.DropOrder heirs = Unit {0}
 MayHappen w (event.Queue n t) heirs = IsOwnTask t
 MayHappen w event.Add heirs = Unit {0}
 MayHappen w (event.Tell s t) heirs = IsSession s × IsSession t

@@ -103,6 +103,7 @@ starts (event.Merge n) s = false
 starts event.Monitor s = false
 starts (event.Refresh t) s = false
 starts (event.Give o) s = false
+starts event.DropOrder s = false
 starts (event.Queue n t) s = false
 starts event.Add s = false
 starts (event.Tell t u) s = false

@@ -49,6 +49,9 @@ pub enum Event {
     Give {
         order: Order,
     },
+    /// The order under way is given up, if there is one: the monitor does no more of it, and has no order then. What it did
+    /// stays.
+    DropOrder,
     /// A release or trim arrives at a lane, behind the tasks that wait there. `NoLane` where the lane wasn't made; else
     /// `Nothing` where it is stopped.
     Queue {

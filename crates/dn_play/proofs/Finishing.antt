@@ -50,7 +50,7 @@ pub leads_on : (w : World) (lines : List Line) (words now : List ℕ) (p q : Pla
 leads_on w lines words now p q old out r s place o there h goes =
     let x : Run = after_steps h.count r in
     leads_behind w lines words now p q old out r (Finish s) (Finish s) h
-    (subst (λ (d : Doing). Leads w lines now q out x d) (ap (λ (d : Doing). left_of d o) h.doing)
+    (subst (λ (d : Doing). Leads w lines now q out x d) (ap (λ (d : Doing). left_of x.world d o) h.doing)
     (goes.is w lines x h.at (next_move w lines words p old x s place h.at h.loads h.doing there)))
 
 pub halts_on : (w : World) (lines : List Line) (words now : List ℕ) (p q : Player) (old out : List ℕ) (r : Run) (s : ℕ) (place : Place) (stop : Stop) → place_of (call_of p.world.crew.waiting s) ≡ Some place

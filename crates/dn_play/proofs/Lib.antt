@@ -12,3 +12,4 @@ pub mod Finishing
 pub mod Lines
 pub mod Playing
 pub mod Opened
+pub mod Moving

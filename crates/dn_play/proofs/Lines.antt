@@ -64,7 +64,7 @@ left_off s only (outcome.Fault actor) e = refl
 pub leads_call : (w : World) (lines : List Line) (words now : List ℕ) (p q : Player) (old out : List ℕ) (r : Run) (s : ℕ) (lane : Option ℕ) (only : Bool) (call : Call) (o : Outcome) → runs_on only o ≡ true
     → IsAt w lines words p old r → Undone (Start s lane only call) r → Goes words p old now q out (λ x. IsNext x (event.Start s lane call)) (left_by o) → Leads w lines now q out r (Finish s)
 leads_call w lines words now p q old out r s lane only call o on at may goes =
-    subst (λ (d : Doing). Leads w lines now q out r d) (ap (λ (d : Doing). left_of d o) may.doing ∙ left_on s only o on)
+    subst (λ (d : Doing). Leads w lines now q out r d) (ap (λ (d : Doing). left_of r.world d o) may.doing ∙ left_on s only o on)
     (goes.is w lines r at (start_next r s lane only call may))
 
 pub can_finish : (words now : List ℕ) (p q : Player) (old out : List ℕ) (s : ℕ) (lane : Option ℕ) (only : Bool) (call : Call) (o : Outcome) → runs_on only o ≡ true
@@ -78,7 +78,7 @@ can_finish words now p q old out s lane only call o on h goes =
       may_go = record { loads = l.loads; doing = l.doing };
     }
 
-ends_behind : (w : World) (lines : List Line) (words now : List ℕ) (p q : Player) (old out : List ℕ) (r : Run) (d : Doing) → (h : Leads w lines words p old r d) → EndsLine w lines now q out (after_steps h.count r) → EndsLine w lines now q out r
+pub ends_behind : (w : World) (lines : List Line) (words now : List ℕ) (p q : Player) (old out : List ℕ) (r : Run) (d : Doing) → (h : Leads w lines words p old r d) → EndsLine w lines now q out (after_steps h.count r) → EndsLine w lines now q out r
 ends_behind w lines words now p q old out r d h l =
     let next = after_sum l.count h.count r in record {
       count = l.count + h.count;
@@ -98,7 +98,7 @@ halts_started w lines mid now m q at_mid out r s stop l halts =
 pub ends_only : (w : World) (lines : List Line) (words now : List ℕ) (p q : Player) (old out : List ℕ) (r : Run) (s : ℕ) (lane : Option ℕ) (only : Bool) (call : Call) (o : Outcome) → runs_on only o ≡ false
     → IsAt w lines words p old r → Undone (Start s lane only call) r → Goes words p old now q out (λ x. IsNext x (event.Start s lane call)) (left_by o) → EndsLine w lines now q out r
 ends_only w lines words now p q old out r s lane only call o off at may goes =
-    ends_so w lines now q out r Rest (λ v. refl) (subst (λ (d : Doing). Leads w lines now q out r d) (ap (λ (d : Doing). left_of d o) may.doing ∙ left_off s only o off)
+    ends_so w lines now q out r Rest (λ v. refl) (subst (λ (d : Doing). Leads w lines now q out r d) (ap (λ (d : Doing). left_of r.world d o) may.doing ∙ left_off s only o off)
     (goes.is w lines r at (start_next r s lane only call may)))
 
 -- ---- a session of the script
@@ -116,15 +116,17 @@ pub record IsUnplayed (l : Line) : Type 0 where
   pub add : l ≡ line.Add → ⊥
   pub tell : (s t : ℕ) → l ≡ line.Tell s t → ⊥
   pub trim : (n : ℕ) → l ≡ line.Trim n → ⊥
+  pub monitor : (count : ℕ) → l ≡ line.Monitor count → ⊥
+  pub move : (only : Bool) (key n : ℕ) → l ≡ line.Move only key n → ⊥
 
 unplayed : (l : Line) → IsUnplayed l → doing_of l ≡ Rest
 unplayed (line.Call s lane only call) h = absurd (h.call s lane only call refl)
 unplayed (line.Step n count) h = absurd (h.step n count refl)
 unplayed (line.Flow n index) h = absurd (h.flow n index refl)
 unplayed (line.Merge n count) h = absurd (h.merge n count refl)
-unplayed (line.Monitor count) h = refl
+unplayed (line.Monitor count) h = absurd (h.monitor count refl)
 unplayed line.Add h = absurd (h.add refl)
-unplayed (line.Move only key n) h = refl
+unplayed (line.Move only key n) h = absurd (h.move only key n refl)
 unplayed (line.Fence n) h = refl
 unplayed (line.Takeover only n) h = refl
 unplayed line.Balance h = refl

@@ -1,5 +1,6 @@
 use Rattle.std.proofs.Common.{ℕ, suc, ◌≡◌, ◌<◌, ◌-◌, ◌^◌, Bool, true, false, List, [], ◌∷◌, Some, None, refl, sym, ◌∙◌, ap, subst, arith}
 use Rattle.std.proofs.lemmas.List.{length-append}
+use Rattle.dn_monitor.specs.Heirs.{no_heirs}
 use Rattle.dn_outcomes.specs.Does.{does}
 use Rattle.dn_outcomes.specs.State.{World}
 use Rattle.dn_outcomes.specs.declared.events.Event.TheVariants.{Refresh}
@@ -56,7 +57,7 @@ loading_more w lines words now p q old out r s h is at =
 -- there are fewer events to come
 pub fewer : (w : World) (lines : List Line) (words now : List ℕ) (p q : Player) (old out : List ℕ) (r : Run) (s : ℕ) → IsAt w lines words p old r → IsAt w lines now q out (loads_deed r s) → 2 ^ 22 - q.events < 2 ^ 22 - p.events
 fewer w lines words now p q old out r s at next =
-    let long = length-append r.past (happening (Refresh s) (does r.world (Refresh s) []) ∷ []) in
+    let long = length-append r.past (happening (Refresh s) (does r.world (Refresh s) no_heirs) ∷ []) in
     omega (arith, long, at.events, next.events, next.few)
 
 -- the call waits for no load any more

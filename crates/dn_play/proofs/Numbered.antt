@@ -2,6 +2,9 @@ use Rattle.std.proofs.Common.{ℕ, ◌≡◌, ◌≤◌, Bool, true, false, List
 use Rattle.std.proofs.lemmas.List.{length-append}
 use Rattle.dn_hist.specs.declared.calls.Call.{Call}
 use Rattle.dn_outcomes.specs.Accounts.{numbered_by, asked_by, asked_in}
+use Rattle.dn_monitor.specs.Heirs.{no_heirs}
+use Rattle.dn_monitor.specs.declared.orders.Order.{Order}
+use Rattle.dn_monitor.specs.declared.orders.Order.TheVariants.{Format, Look, Move, Fence, Takeover}
 use Rattle.dn_outcomes.specs.Does.{does}
 use Rattle.dn_outcomes.specs.Sound.{MayHappen}
 use Rattle.dn_outcomes.specs.State.{World, Done}
@@ -12,10 +15,10 @@ use Rattle.dn_outcomes.specs.declared.outcomes.Outcome.{Outcome}
 use Rattle.dn_outcomes.specs.declared.outcomes.Outcome.TheVariants as outcome
 use Rattle.dn_outcomes.proofs.Counted.{run_counted}
 use Rattle.dn_script.specs.declared.scripts.Line.{Line}
-use Rattle.dn_world.specs.Happens.{MayBeGiven}
+use Rattle.dn_world.specs.Happens.{MayBeGiven, IsNoFormat}
 use Rattle.dn_run.specs.Happening.{Happening}
 use Rattle.dn_run.specs.Run.{Run, happenings}
-use Rattle.dn_play.specs.At.{IsAt, is_order}
+use Rattle.dn_play.specs.At.{IsAt, is_move, is_plain}
 use Rattle.dn_play.specs.declared.players.Player.{Player}
 
 -- A session has numbered no more calls than there were events.
@@ -45,6 +48,7 @@ one_asked (event.Merge n) o = omega arith
 one_asked event.Monitor o = omega arith
 one_asked (event.Refresh s) o = omega arith
 one_asked (event.Give order) o = omega arith
+one_asked event.DropOrder o = omega arith
 one_asked (event.Queue n t) o = omega arith
 one_asked event.Add o = omega arith
 one_asked (event.Tell s t) o = omega arith
@@ -73,7 +77,14 @@ number_few w lines words p out r s at =
     omega (arith, counted.last, few, none, same, past)
 
 -- so it may be given what may happen
-pub may_give : (w : World) (lines : List Line) (words : List ℕ) (p : Player) (out : List ℕ) (r : Run) (e : Event) → IsAt w lines words p out r → MayHappen r.world e [] → is_order e ≡ false
+no_format : (o : Order) → is_move o ≡ true → IsNoFormat o
+no_format (Move slot to) move segments e = absurd (cc e)
+no_format (Format n) move segments e = absurd (cc)
+no_format (Look slot) move segments e = absurd (cc e)
+no_format (Fence lane) move segments e = absurd (cc e)
+no_format (Takeover lane) move segments e = absurd (cc e)
+
+pub may_give : (w : World) (lines : List Line) (words : List ℕ) (p : Player) (out : List ℕ) (r : Run) (e : Event) → IsAt w lines words p out r → MayHappen r.world e no_heirs → is_plain e ≡ true
     → MayBeGiven p.world e
 may_give w lines words p out r (event.Start s lane call) at may plain =
     let few = number_few w lines words p out r s at in
@@ -84,7 +95,8 @@ may_give w lines words p out r (event.Flow n index) at may plain = tt
 may_give w lines words p out r (event.Merge n) at may plain = tt
 may_give w lines words p out r event.Monitor at may plain = tt
 may_give w lines words p out r (event.Refresh s) at may plain = may
-may_give w lines words p out r (event.Give o) at may plain = absurd (cc)
+may_give w lines words p out r (event.Give o) at may plain = (may.0, no_format o plain)
+may_give w lines words p out r event.DropOrder at may plain = may
 may_give w lines words p out r (event.Queue n t) at may plain = may
 may_give w lines words p out r event.Add at may plain = tt
 may_give w lines words p out r (event.Tell s t) at may plain = may

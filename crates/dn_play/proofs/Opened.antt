@@ -73,9 +73,9 @@ opened_uncalled before words w segments n h = record {
 }
 
 -- ---- a player that has had its events is at the start of a run
-pub starts_at : (before words : List ℕ) (p : Player) (segments n : ℕ) (lines : List Line) → IsOpened before words p.world segments n → p.counts ≡ counts_of [] → p.events ≡ 129 → All IsLine lines
+pub starts_at : (before words : List ℕ) (p : Player) (segments n : ℕ) (lines : List Line) → IsOpened before words p.world segments n → p.counts ≡ counts_of [] → p.events ≡ 129 → p.order ≡ None → All IsLine lines
     → IsAt (world_of words p.world.crew [] []) lines words p [] (run_of (world_of words p.world.crew [] []) lines)
-starts_at before words p segments n lines h counts events fit =
+starts_at before words p segments n lines h counts events none fit =
     let w : World = world_of words p.world.crew [] [] in
     let fresh = opened_uncalled before words p.world segments n h in record {
       start = h.sound;
@@ -85,6 +85,7 @@ starts_at before words p segments n lines h counts events fit =
       counts = counts;
       events = events;
       few = omega (arith, events);
+      order = none;
       printed = refl;
     }
 

@@ -33,6 +33,7 @@ at_begun w lines words p out r l rest at h = record {
   counts = at.counts;
   events = at.events;
   few = at.few;
+  order = at.order;
   printed = at.printed;
 }
 

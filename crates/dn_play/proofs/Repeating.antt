@@ -51,14 +51,14 @@ can_next words p out e count done lt h = record {
 }
 
 -- what is left once it has found something to do, or nothing
-left_again : (e : Event) (k : ℕ) (o : Outcome) (d : Doing) → d ≡ Repeat e (suc k) → finds_nothing o ≡ false → left_of d o ≡ Repeat e k
-left_again e k o d is found = ap (λ (x : Doing). left_of x o) is ∙ by (finds_nothing o) found where
+left_again : (w : World) (e : Event) (k : ℕ) (o : Outcome) (d : Doing) → d ≡ Repeat e (suc k) → finds_nothing o ≡ false → left_of w d o ≡ Repeat e k
+left_again w e k o d is found = ap (λ (x : Doing). left_of w x o) is ∙ by (finds_nothing o) found where
   by : (b : Bool) → b ≡ false → (if b then Rest else Repeat e k) ≡ Repeat e k
   by true f = absurd (cc)
   by false f = refl
 
-left_none : (e : Event) (k : ℕ) (o : Outcome) (d : Doing) → d ≡ Repeat e (suc k) → finds_nothing o ≡ true → left_of d o ≡ Rest
-left_none e k o d is found = ap (λ (x : Doing). left_of x o) is ∙ by (finds_nothing o) found where
+left_none : (w : World) (e : Event) (k : ℕ) (o : Outcome) (d : Doing) → d ≡ Repeat e (suc k) → finds_nothing o ≡ true → left_of w d o ≡ Rest
+left_none w e k o d is found = ap (λ (x : Doing). left_of w x o) is ∙ by (finds_nothing o) found where
   by : (b : Bool) → b ≡ true → (if b then Rest else Repeat e k) ≡ Rest
   by true f = refl
   by false f = absurd (cc)
@@ -69,7 +69,7 @@ pub leads_again : (w : World) (lines : List Line) (words now : List ℕ) (p q : 
 leads_again w lines words now p q old out r e count done o lt found h goes =
     let x : Run = after_steps h.count r in
     leads_behind w lines words now p q old out r (Repeat e (count - done)) (Repeat e (count - (done + 1))) h
-    (subst (λ (d : Doing). Leads w lines now q out x d) (left_again e (count - (done + 1)) o x.doing (h.doing ∙ ap (Repeat e) (count_of count done lt)) found)
+    (subst (λ (d : Doing). Leads w lines now q out x d) (left_again x.world e (count - (done + 1)) o x.doing (h.doing ∙ ap (Repeat e) (count_of count done lt)) found)
     (goes.is w lines x h.at (leads_next w lines words p old r e count done lt h)))
 
 pub ends_found : (w : World) (lines : List Line) (words now : List ℕ) (p q : Player) (old out : List ℕ) (r : Run) (e : Event) (count done : ℕ) (o : Outcome) → done < count → finds_nothing o ≡ true
@@ -77,7 +77,7 @@ pub ends_found : (w : World) (lines : List Line) (words now : List ℕ) (p q : P
 ends_found w lines words now p q old out r e count done o lt found h goes =
     let x : Run = after_steps h.count r in
     ends_so w lines now q out r Rest (λ v. refl) (leads_behind w lines words now p q old out r (Repeat e (count - done)) Rest h
-    (subst (λ (d : Doing). Leads w lines now q out x d) (left_none e (count - (done + 1)) o x.doing (h.doing ∙ ap (Repeat e) (count_of count done lt)) found)
+    (subst (λ (d : Doing). Leads w lines now q out x d) (left_none x.world e (count - (done + 1)) o x.doing (h.doing ∙ ap (Repeat e) (count_of count done lt)) found)
     (goes.is w lines x h.at (leads_next w lines words p old r e count done lt h))))
 
 pub halts_again : (w : World) (lines : List Line) (words now : List ℕ) (p q : Player) (old out : List ℕ) (r : Run) (e : Event) (count done : ℕ) (stop : Stop) → done < count

@@ -1,5 +1,6 @@
-use Rattle.std.proofs.Common.{ℕ, zero, suc, ◌≡◌, ◌+◌, List, [], Some, sym, ◌∙◌, ap, subst, arith}
+use Rattle.std.proofs.Common.{ℕ, zero, suc, ◌≡◌, ◌+◌, List, Some, sym, ◌∙◌, ap, subst, arith}
 use Rattle.std.proofs.lemmas.Option.{none-some}
+use Rattle.dn_monitor.specs.Heirs.{no_heirs}
 use Rattle.dn_outcomes.specs.Does.{does}
 use Rattle.dn_outcomes.specs.State.{World}
 use Rattle.dn_outcomes.specs.declared.events.Event.{Event}
@@ -18,7 +19,7 @@ use Rattle.dn_play.specs.declared.stops.Stop.TheVariants.{Long, Pool, OutOfMemor
 pub step_load : (r : Run) (s : ℕ) → loader r ≡ Some s → step r ≡ loads_deed r s
 step_load r s e = ap (steps r) e
 
-pub step_next : (r : Run) (e : Event) → IsNext r e → step r ≡ goes_on r e (does r.world e [])
+pub step_next : (r : Run) (e : Event) → IsNext r e → step r ≡ goes_on r e (does r.world e no_heirs)
 step_next r e h = ap (steps r) h.loads ∙ ap (acts r) h.next
 
 pub after_sum : (j k : ℕ) (r : Run) → after_steps j (after_steps k r) ≡ after_steps (j + k) r
@@ -47,7 +48,7 @@ pub load_more : (r : Run) (s : ℕ) → loader r ≡ Some s → HasNext r
 load_more r s e none = absurd (none-some s (sym none ∙ e))
 
 -- ---- behind an event, where a line isn't printed
-pub leaves_event : (r : Run) (now : List ℕ) (p q : Player) (e : Event) (o : Outcome) (d : Doing) → IsGiven r now p q e o → step r ≡ with_event r e (does r.world e []) d → LeavesRun now r
+pub leaves_event : (r : Run) (now : List ℕ) (p q : Player) (e : Event) (o : Outcome) (d : Doing) → IsGiven r now p q e o → step r ≡ with_event r e (does r.world e no_heirs) d → LeavesRun now r
 leaves_event r now p q e o d h is = record { count = 1; words = ap (λ (x : Run). x.world.machine.words) is ∙ ap (λ (v : World). v.machine.words) (sym h.world) }
 
 pub stops_print : (w : World) (lines : List Line) (now : List ℕ) (q : Player) (out : List ℕ) (r : Run) (stop : Stop) → stop ≡ OutOfMemory → LeavesRun now r → Stops w lines now q out r stop

@@ -1,11 +1,14 @@
 use Rattle.std.specs.Prelude.{◌≡◌, ◌<◌, ◌≤◌, ◌^◌, ◌++◌, ℕ, ◌+◌, Bool, true, false, List, [], Option, Some, None, All, not, length}
 use Rattle.dn_callers.specs.Sessions.{IsSession}
+use Rattle.dn_monitor.specs.Heirs.{no_heirs}
+use Rattle.dn_monitor.specs.declared.orders.Order.{Order}
+use Rattle.dn_monitor.specs.declared.orders.Order.TheVariants.{Move}
 use Rattle.dn_outcomes.specs.Does.{does}
 use Rattle.dn_outcomes.specs.Sound.{IsWorld, MayHappen}
 use Rattle.dn_outcomes.specs.State.{World}
 use Rattle.dn_outcomes.specs.declared.events.Event.{Event}
 use Rattle.dn_outcomes.specs.Told.{is_made_by}
-use Rattle.dn_outcomes.specs.declared.events.Event.TheVariants.{Give, Queue, Step, Merge, Flow, Add, Tell, Refresh}
+use Rattle.dn_outcomes.specs.declared.events.Event.TheVariants.{Give, Queue, Step, Merge, Flow, Monitor, Add, Tell, Refresh}
 use Rattle.dn_tend.specs.declared.tasks.Task.TheVariants.{Trim}
 use Rattle.dn_outcomes.specs.declared.outcomes.Outcome.TheVariants.{Acted, Numbered, Answered, GivenUp}
 use Rattle.dn_outcomes.specs.declared.outcomes.Outcome.{Outcome}
@@ -18,23 +21,27 @@ use Rattle.dn_world.specs.Comes.{has_failed}
 use Rattle.dn_world.specs.Opening.{IsOpened}
 use Rattle.dn_world.specs.State.{world_of}
 use Rattle.dn_run.specs.Counts.{counts_of, is_of_get}
-use Rattle.dn_run.specs.Doing.{Doing, Finish, Repeat, next_of, left_of}
+use Rattle.dn_run.specs.Doing.{Doing, Rest, Finish, Repeat, next_of, left_of}
+use Rattle.dn_run.specs.Doing as doing
 use Rattle.dn_run.specs.Going.{IsGoing}
 use Rattle.dn_run.specs.Happening.{happening, loads_of, receipt_if, makes_call}
 use Rattle.dn_run.specs.Run.{Run, run_of, IsBetween, answered_to, loader, after_steps}
-use Rattle.dn_run.specs.Text.{events_text, step_text}
+use Rattle.dn_run.specs.Text.{step_text}
 use Rattle.dn_run.specs.Uncalled.{IsUncalled}
 use Rattle.dn_play.specs.Tally.{added}
 use Rattle.dn_play.specs.declared.players.Player.{Player}
 use Rattle.dn_play.specs.declared.players.Action.{Action}
 use Rattle.dn_play.specs.declared.players.Action.TheVariants as action
+use Rattle.dn_play.specs.declared.players.orders.Moving.{Moving}
+use Rattle.dn_play.specs.declared.players.orders.Moving.TheVariants as moving
 use Rattle.dn_play.specs.declared.stops.Stop.{Stop}
 use Rattle.dn_play.specs.declared.stops.Stop.TheVariants.{Long, Pool, OutOfMemory}
 
 -- A player carries out a run.
 
 -- Over these words it is at this moment of the run of these lines over world w: its world is the run's, what it has counted is what
--- the run counts, it has had as many events, beside the 129 of an opening, and the event lines are printed.
+-- the run counts, it has had as many events, beside the 129 of an opening, it knows the order under way, and the event lines are
+-- printed.
 pub record IsAt (w : World) (lines : List Line) (words : List ℕ) (p : Player) (out : List ℕ) (r : Run) : Type 0 where
   pub start : IsWorld w
   pub fresh : IsUncalled w
@@ -43,7 +50,8 @@ pub record IsAt (w : World) (lines : List Line) (words : List ℕ) (p : Player) 
   pub counts : p.counts ≡ counts_of r.past
   pub events : p.events ≡ 129 + length r.past
   pub few : p.events ≤ 2 ^ 22
-  pub printed : out ≡ events_text r.past
+  pub order : p.order ≡ r.order
+  pub printed : out ≡ r.printed
 
 -- ---- at one at which no deed is to be loaded, and this event is next
 pub record IsNext (r : Run) (e : Event) : Type 0 where
@@ -87,9 +95,14 @@ CountsStop old new Pool = old < new
 CountsStop old new OutOfMemory = new ≡ old
 
 -- ---- an event of a world that a player has
-abbrev pub is_order : Event → Bool
-is_order (Give o) = true
-is_order other = false
+-- all but an order that is no move
+abbrev pub is_move : Order → Bool
+is_move (Move slot to) = true
+is_move other = false
+
+abbrev pub is_plain : Event → Bool
+is_plain (Give o) = is_move o
+is_plain other = true
 
 pub record CanGive (words : List ℕ) (p : Player) (e : Event) : Type 0 where
   pub out : List ℕ
@@ -97,19 +110,20 @@ pub record CanGive (words : List ℕ) (p : Player) (e : Event) : Type 0 where
   pub lines : List Line
   pub run : Run
   pub at : IsAt start lines words p out run
-  pub may : MayHappen run.world e []
-  pub plain : is_order e ≡ false
+  pub may : MayHappen run.world e no_heirs
+  pub plain : is_plain e ≡ true
 
 pub record IsGiven (r : Run) (now : List ℕ) (p q : Player) (e : Event) (o : Outcome) : Type 0 where
-  pub world : world_of now q.world.crew (does r.world e []).world.machine.callers.told q.world.history ≡ (does r.world e []).world
-  pub outcome : o ≡ (does r.world e []).outcome
-  pub counts : q.counts ≡ added p.counts o (is_of_get (happening e (does r.world e [])).receipt) (happening e (does r.world e [])).refused
+  pub world : world_of now q.world.crew (does r.world e no_heirs).world.machine.callers.told q.world.history ≡ (does r.world e no_heirs).world
+  pub outcome : o ≡ (does r.world e no_heirs).outcome
+  pub counts : q.counts ≡ added p.counts o (is_of_get (happening e (does r.world e no_heirs)).receipt) (happening e (does r.world e no_heirs)).refused
   pub events : q.events ≡ p.events + 1
   pub few : q.events ≤ 2 ^ 22
+  pub order : q.order ≡ p.order
 
 -- at whatever moment of whatever run the player is
 pub record Gives (words : List ℕ) (p : Player) (now : List ℕ) (q : Player) (e : Event) (o : Outcome) : Type 0 where
-  pub is : (w : World) (lines : List Line) (out : List ℕ) (r : Run) → IsAt w lines words p out r → MayHappen r.world e [] → IsGiven r now p q e o
+  pub is : (w : World) (lines : List Line) (out : List ℕ) (r : Run) → IsAt w lines words p out r → MayHappen r.world e no_heirs → IsGiven r now p q e o
 
 abbrev pub StopsEvent : List ℕ → Player → List ℕ → Player → Stop → Type 0
 StopsEvent words p now q Long = (now ≡ words) × (q ≡ p) × (p.events ≡ 2 ^ 22)
@@ -152,6 +166,7 @@ pub record IsCounted (p q : Player) (loader : Option ℕ) (outcome o : Outcome) 
     world = p.world;
     counts = added p.counts outcome (is_of_get (receipt_if (makes_call outcome) p.world.history)) (refused_by loader p.world.crew.waiting outcome);
     events = p.events + 1;
+    order = p.order;
   }
 
 -- ---- what a call of a player does from the moments of runs at which it may be made
@@ -195,12 +210,13 @@ printed_step p out n o = out ++ step_text n (receipt_if (makes_call o) p.world.h
 
 -- what is left by this outcome
 abbrev pub left_by : Outcome → Run → Doing
-left_by o r = left_of r.doing o
+left_by o r = left_of r.world r.doing o
 
 -- the event that is asked for
 abbrev pub event_by : Action → Event
 event_by (action.Step n) = Step n
 event_by (action.Merge n) = Merge n
+event_by action.Monitor = Monitor
 event_by (action.Flow n index) = Flow n index
 event_by action.Add = Add
 event_by (action.Tell s t) = Tell s t
@@ -224,6 +240,18 @@ Finishes s = Undone (Finish s)
 abbrev pub runs_on : Bool → Outcome → Bool
 runs_on only (Numbered number) = not only
 runs_on only refused = false
+
+-- ---- an order that was given is run to its end, unless it is only started
+abbrev pub moves_on : Bool → Outcome → Bool
+moves_on whole Acted = whole
+moves_on whole refused = false
+
+-- what is left of one of a slot
+abbrev pub order_doing : ℕ → Option Moving → Doing
+order_doing slot None = Rest
+order_doing slot (Some (moving.Order n)) = doing.Order slot n
+order_doing slot (Some moving.Merge) = doing.Merge slot
+order_doing slot (Some moving.Drop) = doing.Drop
 
 -- ---- all is done of the line under way
 pub record EndsLine (w : World) (lines : List Line) (now : List ℕ) (q : Player) (out : List ℕ) (r : Run) : Type 0 where

@@ -19,6 +19,7 @@ ghost use Rattle.dn_play.specs.At.{IsAt, IsCounted, CanGo, Goes, Halts, IsMoved,
 ghost use Rattle.dn_play.specs.Tally.{HasRoom, added, one_if};
 
 mod actions;
+mod orders;
 
 use crate::printing::{print, print_given, print_load, print_start};
 use crate::stops::Stop;
@@ -27,7 +28,7 @@ use dn_act::Memory;
 use dn_hist::Call;
 use dn_outcomes::{CallAnswer, Event, Outcome};
 use dn_print::{EventLine, made as print_made};
-use dn_run::Counts;
+use dn_run::{Counts, MoveOrder};
 use dn_script::Line;
 use dn_waiting::Place;
 use dn_word::OutOfMemory;
@@ -47,6 +48,8 @@ pub enum Action {
     Step { lane: u8 },
     /// The merger of a lane makes its next action.
     Merge { lane: u8 },
+    /// The monitor makes its next action.
+    Monitor,
     /// A staged word of a lane flows.
     Flow { lane: u8, index: u32 },
     /// A lane is added.
@@ -57,12 +60,14 @@ pub enum Action {
     Trim { lane: u8 },
 }
 
-/// A world, what was counted of its events, and how many there were, those of the opening among them.
+/// A world, what was counted of its events, how many there were, those of the opening among them, and the order of a move that
+/// is under way.
 #[derive(Drop)]
 pub struct Player {
     pub world: World,
     pub counts: Counts,
     pub events: u32,
+    pub order: Option<MoveOrder>,
 }
 
 /// Whether a count of actions ends with this outcome.
@@ -120,6 +125,7 @@ impl Player {
                 world,
                 counts: nothing(),
                 events: OPENING,
+                order: None,
             }),
             Err(OpenFault::Pool) => Err(Stop::Pool),
             Err(OpenFault::OutOfMemory) => Err(Stop::OutOfMemory),
@@ -540,6 +546,7 @@ impl Player {
         match action {
             Action::Step { lane } => self.step(mem, out, lane),
             Action::Merge { lane } => self.merge(mem, out, lane),
+            Action::Monitor => self.monitor(mem, out),
             Action::Flow { lane, index } => self.flow(mem, out, lane, index),
             Action::Add => self.add(mem, out),
             Action::Tell { from, to } => self.tell(mem, out, from, to),
@@ -720,6 +727,8 @@ impl Player {
             Line::Step { lane, count } => self.repeat(mem, out, Action::Step { lane }, count),
             Line::Merge { lane, count } => self.repeat(mem, out, Action::Merge { lane }, count),
             Line::Flow { lane, index } => self.repeat(mem, out, Action::Flow { lane, index }, 1),
+            Line::Monitor { count } => self.repeat(mem, out, Action::Monitor, count),
+            Line::Move { start, key, lane } => self.move_slot(mem, out, key, lane, !start),
             Line::Add => self.repeat(mem, out, Action::Add, 1),
             Line::Tell { from, to } => self.repeat(mem, out, Action::Tell { from, to }, 1),
             Line::Trim { lane } => self.repeat(mem, out, Action::Trim { lane }, 1),

@@ -8,7 +8,7 @@ use std::process::Abort;
 use std::test::Fail;
 
 /// The verbs of the lines that are played.
-const VERBS: [Verb; 14] = [
+const VERBS: [Verb; 16] = [
     Verb::Pool,
     Verb::Nodes,
     Verb::Get,
@@ -20,7 +20,9 @@ const VERBS: [Verb; 14] = [
     Verb::Step,
     Verb::Flow,
     Verb::Merge,
+    Verb::Monitor,
     Verb::Add,
+    Verb::Move,
     Verb::Tell,
     Verb::Trim,
 ];

@@ -22,7 +22,7 @@ use Rattle.dn_script.specs.declared.asked.AskedCall.{AskedCall}
 use Rattle.dn_script.specs.declared.scripts.Line.{Line}
 use Rattle.dn_script.specs.declared.scripts.Line.TheVariants as line
 use Rattle.dn_run.specs.Asked.{PlayedLine, played_by, played_in, line_played, lines_played, call_numbered, calls_numbered, IsAsked}
-use Rattle.dn_run.specs.Doing.{Doing, Rest, Start, Finish, Repeat, doing_of}
+use Rattle.dn_run.specs.Doing.{Doing, Rest, Start, Finish, Repeat, Give, Order, Merge, Drop, doing_of}
 use Rattle.dn_run.specs.Going.{IsGoing}
 use Rattle.dn_run.specs.Happening.{Happening}
 use Rattle.dn_run.specs.Headline.{CallLine, call_left, calls_left, call_started, calls_started}
@@ -128,6 +128,7 @@ count_event s (event.Merge n) o = refl
 count_event s event.Monitor o = refl
 count_event s (event.Refresh t) o = refl
 count_event s (event.Give order) o = refl
+count_event s event.DropOrder o = refl
 count_event s (event.Queue n t) o = refl
 count_event s event.Add o = refl
 count_event s (event.Tell t u) o = refl
@@ -172,6 +173,7 @@ event_all w (event.Merge n) heirs asked h may are = append-nil asked
 event_all w event.Monitor heirs asked h may are = append-nil asked
 event_all w (event.Refresh t) heirs asked h may are = append-nil asked
 event_all w (event.Give o) heirs asked h may are = append-nil asked
+event_all w event.DropOrder heirs asked h may are = append-nil asked
 event_all w (event.Queue n t) heirs asked h may are = append-nil asked
 event_all w event.Add heirs asked h may are = append-nil asked
 event_all w (event.Tell s t) heirs asked h may are = append-nil asked
@@ -197,6 +199,7 @@ event_line (event.Merge n) o = refl
 event_line event.Monitor o = refl
 event_line (event.Refresh t) o = refl
 event_line (event.Give order) o = refl
+event_line event.DropOrder o = refl
 event_line (event.Queue n t) o = refl
 event_line event.Add o = refl
 event_line (event.Tell s t) o = refl
@@ -248,6 +251,10 @@ line_taken l Rest ls xs is e rest = quiet_line l ls xs (ap call_left is) (rest x
 line_taken l (Start s lane b call) ls xs is e rest = one_line l ls (record { session = s; lane = lane; call = call }) xs (ap call_left is) e rest
 line_taken l (Finish s) ls xs is e rest = quiet_line l ls xs (ap call_left is) (rest xs e)
 line_taken l (Repeat x k) ls xs is e rest = quiet_line l ls xs (ap call_left is) (rest xs e)
+line_taken l (Give key n b) ls xs is e rest = quiet_line l ls xs (ap call_left is) (rest xs e)
+line_taken l (Order slot n) ls xs is e rest = quiet_line l ls xs (ap call_left is) (rest xs e)
+line_taken l (Merge slot) ls xs is e rest = quiet_line l ls xs (ap call_left is) (rest xs e)
+line_taken l Drop ls xs is e rest = quiet_line l ls xs (ap call_left is) (rest xs e)
 
 has_taken : (lines : List Line) (xs : List PlayedLine) → map (λ (x : PlayedLine). x.line) xs ≡ calls_left lines → HasTaken lines xs
 has_taken [] xs e = record { taken = []; each = refl; played = no_lines xs e }

@@ -14,6 +14,16 @@ use Rattle.dn_waiting.specs.State.{call_of}
 use Rattle.dn_waiting.specs.declared.calls.OpenCall.{OpenCall}
 use Rattle.dn_waiting.specs.declared.calls.Place.{Place}
 use Rattle.dn_waiting.specs.declared.calls.Place.TheVariants.{Loading, Queued, Begun}
+use Rattle.dn_merge.specs.declared.mergers.MergeTurn.{MergeTurn}
+use Rattle.dn_merge.specs.declared.mergers.MergeTurn.TheVariants as turn
+use Rattle.dn_model.specs.Regions.{slot_of}
+use Rattle.dn_model.proofs.HashLaws.{slot_below}
+use Rattle.dn_monitor.specs.Heirs.{no_heirs}
+use Rattle.dn_monitor.specs.Monitor.{IsOrder}
+use Rattle.dn_monitor.specs.declared.orders.Order.TheVariants.{Move}
+use Rattle.dn_monitor.specs.declared.orders.MonitorAnswer.{MonitorAnswer}
+use Rattle.dn_monitor.specs.declared.orders.MonitorAnswer.TheVariants as told
+use Rattle.dn_outcomes.specs.Awaited.{is_releasing, marked}
 use Rattle.dn_outcomes.specs.Does.{does}
 use Rattle.dn_outcomes.specs.Runs.{after, IsRun}
 use Rattle.dn_outcomes.specs.Sound.{IsWorld, MayHappen}
@@ -25,7 +35,7 @@ use Rattle.dn_outcomes.specs.declared.outcomes.Outcome.{Outcome}
 use Rattle.dn_outcomes.specs.declared.outcomes.Outcome.TheVariants as outcome
 use Rattle.dn_outcomes.proofs.Kept.{kept}
 use Rattle.dn_outcomes.proofs.ToldEvents.{calls_so}
-use Rattle.dn_run.specs.Doing.{Doing, Rest, Start, Finish, Repeat, doing_of, moves_at, moves, next_of, numbered_left, left_of, finds_nothing}
+use Rattle.dn_run.specs.Doing.{Doing, Rest, Start, Finish, Repeat, Give, Order, Merge, Drop, doing_of, moves_at, moves, acts_for, next_of, numbered_left, given_left, told_left, monitor_left, order_left, turn_left, merge_left, left_of, finds_nothing}
 use Rattle.dn_run.specs.Going.{HaveCalls, IsDoing, IsGoing}
 use Rattle.dn_run.specs.Happening.{Happening, happening, loads_of, loads}
 use Rattle.dn_run.specs.Headline.{CallLine, call_left, calls_left, call_started, calls_started}
@@ -60,7 +70,7 @@ not_zero s o c e none = elim (cases_lt s 1) [
 pub session_of_call : (w : World) (s : ℕ) (c : OpenCall) → HaveCalls w → call_of w.waiting s ≡ Some c → IsSession s
 session_of_call w s c own e = not_zero s (call_of w.waiting s) c e (own s)
 
-starts_other : (w : World) (e : Event) (s : ℕ) → MayHappen w e [] → (IsSession s → ⊥) → starts e s ≡ false
+starts_other : (w : World) (e : Event) (s : ℕ) → MayHappen w e no_heirs → (IsSession s → ⊥) → starts e s ≡ false
 starts_other w (event.Start t lane call) s may none = by (t == s) refl where
   by : (b : Bool) → (t == s) ≡ b → b ≡ false
   by true e = absurd (none (subst IsSession (eqb-true t s e) may.0))
@@ -71,6 +81,7 @@ starts_other w (event.Merge n) s may none = refl
 starts_other w event.Monitor s may none = refl
 starts_other w (event.Refresh t) s may none = refl
 starts_other w (event.Give o) s may none = refl
+starts_other w event.DropOrder s may none = refl
 starts_other w (event.Queue n t) s may none = refl
 starts_other w event.Add s may none = refl
 starts_other w (event.Tell t u) s may none = refl
@@ -79,9 +90,9 @@ goes_from : (b : Bool) (o now : Option OpenCall) → o ≡ None → GoesOn b o n
 goes_from b None now e h = h
 goes_from b (Some c) now e h = absurd (none-some c (sym e))
 
-calls_kept : (w : World) (e : Event) → IsWorld w → MayHappen w e [] → HaveCalls w → HaveCalls (does w e []).world
+calls_kept : (w : World) (e : Event) → IsWorld w → MayHappen w e no_heirs → HaveCalls w → HaveCalls (does w e no_heirs).world
 calls_kept w e h may own s none =
-    goes_from (is_end (does w e []).outcome s) (call_of w.waiting s) (call_of (does w e []).world.waiting s) (own s none) (calls_so w e [] s h may (starts_other w e s may none))
+    goes_from (is_end (does w e no_heirs).outcome s) (call_of w.waiting s) (call_of (does w e no_heirs).world.waiting s) (own s none) (calls_so w e no_heirs s h may (starts_other w e s may none))
 
 -- ---- what a line asks may be left to do
 pub callable : (call : Call) → IsAskable call → IsCall call
@@ -94,9 +105,9 @@ line_doing (line.Call s lane start call) h = (record { least = h.0.least_of; mos
 line_doing (line.Step n count) h = (λ w. tt, refl)
 line_doing (line.Flow n index) h = (λ w. tt, refl)
 line_doing (line.Merge n count) h = (λ w. tt, refl)
-line_doing (line.Monitor count) h = tt
+line_doing (line.Monitor count) h = (λ w. tt, refl)
 line_doing line.Add h = (λ w. tt, refl)
-line_doing (line.Move start key lane) h = tt
+line_doing (line.Move start key lane) h = (let least = h.1.least_of in let most = h.1.most_of in (slot_below key, omega (arith, least), omega (arith, most)))
 line_doing (line.Fence lane) h = tt
 line_doing (line.Takeover start lane) h = tt
 line_doing line.Balance h = tt
@@ -112,15 +123,15 @@ line_doing (line.Mix seed turns) h = tt
 line_doing (line.Policy hot cold high low) h = tt
 
 -- ---- the next event may happen, and starts the call that is left to be started
-moves_may : (w : World) (s : ℕ) (p : Place) (e : Event) → IsSession s → moves_at s p ≡ e → MayHappen w e [] × (call_started e ≡ [])
-moves_may w s (Loading named) e h is = subst (λ (x : Event). MayHappen w x [] × (call_started x ≡ [])) is (h, refl)
-moves_may w s (Queued lane) e h is = subst (λ (x : Event). MayHappen w x [] × (call_started x ≡ [])) is (tt, refl)
-moves_may w s (Begun lane) e h is = subst (λ (x : Event). MayHappen w x [] × (call_started x ≡ [])) is (tt, refl)
+moves_may : (w : World) (s : ℕ) (p : Place) (e : Event) → IsSession s → moves_at s p ≡ e → MayHappen w e no_heirs × (call_started e ≡ [])
+moves_may w s (Loading named) e h is = subst (λ (x : Event). MayHappen w x no_heirs × (call_started x ≡ [])) is (h, refl)
+moves_may w s (Queued lane) e h is = subst (λ (x : Event). MayHappen w x no_heirs × (call_started x ≡ [])) is (tt, refl)
+moves_may w s (Begun lane) e h is = subst (λ (x : Event). MayHappen w x no_heirs × (call_started x ≡ [])) is (tt, refl)
 
 pub record MayGo (w : World) (d : Doing) (e : Event) : Type 0 where
-  pub may : MayHappen w e []
-  pub starts : (o : Outcome) → call_started e ++ call_left (left_of d o) ≡ call_left d
-  pub left : (o : Outcome) → IsDoing (left_of d o)
+  pub may : MayHappen w e no_heirs
+  pub starts : (o : Outcome) → call_started e ++ call_left (left_of w d o) ≡ call_left d
+  pub left : (o : Outcome) → IsDoing (left_of w d o)
 
 -- nothing is started by what is left once a call was started
 pub record IsQuiet (d : Doing) : Type 0 where
@@ -179,12 +190,123 @@ repeat_goes w e k x h is = subst (λ (y : Event). MayGo w (Repeat e (suc k)) y) 
   left = λ o. again_fits e k (finds_nothing o) h;
 })
 
+-- the order of a move starts none
+quiet_whole : (key : ℕ) (b : Bool) → IsQuiet (if b then Order (slot_of key) 0 else Rest)
+quiet_whole key true = record { none = refl; fits = tt }
+quiet_whole key false = record { none = refl; fits = tt }
+
+quiet_given : (key : ℕ) (b : Bool) (o : Outcome) → IsQuiet (given_left key b o)
+quiet_given key b outcome.Nothing = record { none = refl; fits = tt }
+quiet_given key b outcome.Acted = quiet_whole key b
+quiet_given key b (outcome.Numbered number) = record { none = refl; fits = tt }
+quiet_given key b outcome.Busy = record { none = refl; fits = tt }
+quiet_given key b outcome.Closed = record { none = refl; fits = tt }
+quiet_given key b (outcome.Answered t number answer given) = record { none = refl; fits = tt }
+quiet_given key b (outcome.GivenUp t number) = record { none = refl; fits = tt }
+quiet_given key b (outcome.Ordered answer) = record { none = refl; fits = tt }
+quiet_given key b outcome.MonitorBusy = record { none = refl; fits = tt }
+quiet_given key b (outcome.Tended answer) = record { none = refl; fits = tt }
+quiet_given key b (outcome.Added lane) = record { none = refl; fits = tt }
+quiet_given key b outcome.LanesFull = record { none = refl; fits = tt }
+quiet_given key b outcome.NoLane = record { none = refl; fits = tt }
+quiet_given key b (outcome.Merged turn) = record { none = refl; fits = tt }
+quiet_given key b (outcome.Fault actor) = record { none = refl; fits = tt }
+
+quiet_told : (slot : ℕ) (answer : MonitorAnswer) → IsQuiet (told_left slot answer)
+quiet_told slot (told.Formatted old) = record { none = refl; fits = tt }
+quiet_told slot (told.Looked deed) = record { none = refl; fits = tt }
+quiet_told slot (told.Granted deed) = record { none = refl; fits = tt }
+quiet_told slot (told.Barred old) = record { none = refl; fits = tt }
+quiet_told slot (told.Taken slots) = record { none = refl; fits = tt }
+quiet_told slot (told.Held deed) = record { none = refl; fits = tt }
+quiet_told slot (told.Waiting mark need) = record { none = refl; fits = tt }
+quiet_told slot (told.NotFenced word) = record { none = refl; fits = tt }
+quiet_told slot (told.Worn epoch) = record { none = refl; fits = tt }
+
+quiet_monitor : (slot : ℕ) (o : Outcome) → IsQuiet (monitor_left slot o)
+quiet_monitor slot outcome.Nothing = record { none = refl; fits = tt }
+quiet_monitor slot outcome.Acted = record { none = refl; fits = tt }
+quiet_monitor slot (outcome.Numbered number) = record { none = refl; fits = tt }
+quiet_monitor slot outcome.Busy = record { none = refl; fits = tt }
+quiet_monitor slot outcome.Closed = record { none = refl; fits = tt }
+quiet_monitor slot (outcome.Answered t number answer given) = record { none = refl; fits = tt }
+quiet_monitor slot (outcome.GivenUp t number) = record { none = refl; fits = tt }
+quiet_monitor slot (outcome.Ordered answer) = quiet_told slot answer
+quiet_monitor slot outcome.MonitorBusy = record { none = refl; fits = tt }
+quiet_monitor slot (outcome.Tended answer) = record { none = refl; fits = tt }
+quiet_monitor slot (outcome.Added lane) = record { none = refl; fits = tt }
+quiet_monitor slot outcome.LanesFull = record { none = refl; fits = tt }
+quiet_monitor slot outcome.NoLane = record { none = refl; fits = tt }
+quiet_monitor slot (outcome.Merged turn) = record { none = refl; fits = tt }
+quiet_monitor slot (outcome.Fault actor) = record { none = refl; fits = tt }
+
+quiet_order : (slot n : ℕ) (b : Bool) (o : Outcome) → IsQuiet (order_left slot n b o)
+quiet_order slot n true o = record { none = refl; fits = tt }
+quiet_order slot n false o = quiet_monitor slot o
+
+quiet_turn : (slot : ℕ) (t : MergeTurn) → IsQuiet (turn_left slot t)
+quiet_turn slot turn.More = record { none = refl; fits = tt }
+quiet_turn slot (turn.Idle gate mark) = record { none = refl; fits = tt }
+quiet_turn slot (turn.IndexFull counter) = record { none = refl; fits = tt }
+
+quiet_merge : (slot : ℕ) (o : Outcome) → IsQuiet (merge_left slot o)
+quiet_merge slot outcome.Nothing = record { none = refl; fits = tt }
+quiet_merge slot outcome.Acted = record { none = refl; fits = tt }
+quiet_merge slot (outcome.Numbered number) = record { none = refl; fits = tt }
+quiet_merge slot outcome.Busy = record { none = refl; fits = tt }
+quiet_merge slot outcome.Closed = record { none = refl; fits = tt }
+quiet_merge slot (outcome.Answered t number answer given) = record { none = refl; fits = tt }
+quiet_merge slot (outcome.GivenUp t number) = record { none = refl; fits = tt }
+quiet_merge slot (outcome.Ordered answer) = record { none = refl; fits = tt }
+quiet_merge slot outcome.MonitorBusy = record { none = refl; fits = tt }
+quiet_merge slot (outcome.Tended answer) = record { none = refl; fits = tt }
+quiet_merge slot (outcome.Added lane) = record { none = refl; fits = tt }
+quiet_merge slot outcome.LanesFull = record { none = refl; fits = tt }
+quiet_merge slot outcome.NoLane = record { none = refl; fits = tt }
+quiet_merge slot (outcome.Merged turn) = quiet_turn slot turn
+quiet_merge slot (outcome.Fault actor) = record { none = refl; fits = tt }
+
+give_goes : (w : World) (key n : ℕ) (b : Bool) (e : Event) → IsOrder (Move (slot_of key) n) → event.Give (Move (slot_of key) n) ≡ e → MayGo w (Give key n b) e
+give_goes w key n b e h is = subst (λ (x : Event). MayGo w (Give key n b) x) is (record {
+  may = (h, λ may none. refl);
+  starts = λ o. (quiet_given key b o).none;
+  left = λ o. (quiet_given key b o).fits;
+})
+
+acts_may : (w : World) (n : ℕ) (b : Bool) → MayHappen w (acts_for n b) no_heirs × (call_started (acts_for n b) ≡ [])
+acts_may w n true = (tt, refl)
+acts_may w n false = (tt, refl)
+
+order_goes : (w : World) (slot n : ℕ) (e : Event) → acts_for n (is_releasing w n slot) ≡ e → MayGo w (Order slot n) e
+order_goes w slot n e is =
+    let b : Bool = is_releasing w n slot in
+    let both = acts_may w n b in
+    subst (λ (x : Event). MayGo w (Order slot n) x) is (record {
+      may = both.0;
+      starts = λ o. ap (λ (xs : List CallLine). xs ++ call_left (order_left slot n b o)) both.1 ∙ (quiet_order slot n b o).none;
+      left = λ o. (quiet_order slot n b o).fits;
+    })
+
+merge_goes : (w : World) (slot : ℕ) (e : Event) → event.Merge (marked w) ≡ e → MayGo w (Merge slot) e
+merge_goes w slot e is = subst (λ (x : Event). MayGo w (Merge slot) x) is (record {
+  may = tt;
+  starts = λ o. (quiet_merge slot o).none;
+  left = λ o. (quiet_merge slot o).fits;
+})
+
+drop_goes : (w : World) (e : Event) → event.DropOrder ≡ e → MayGo w Drop e
+drop_goes w e is = subst (λ (x : Event). MayGo w Drop x) is (record { may = tt; starts = λ o. refl; left = λ o. tt })
+
 pub may_go : (w : World) (d : Doing) (e : Event) → IsDoing d → HaveCalls w → next_of w d ≡ Some e → MayGo w d e
 may_go w Rest e i own next = absurd (none-some e next)
 may_go w (Start s lane b call) e i own next = start_goes w s lane b call e i.0 i.1 (cc)
 may_go w (Finish s) e i own next = finish_goes w s (call_of w.waiting s) e refl own next
 may_go w (Repeat x zero) e i own next = absurd (none-some e next)
 may_go w (Repeat x (suc k)) e i own next = repeat_goes w x k e i (cc)
+may_go w (Give key n b) e i own next = give_goes w key n b e i (cc)
+may_go w (Order slot n) e i own next = order_goes w slot n e (cc)
+may_go w (Merge slot) e i own next = merge_goes w slot e (cc)
+may_go w Drop e i own next = drop_goes w e (cc)
 
 -- what isn't to be done starts nothing
 pub no_start : (w : World) (d : Doing) → next_of w d ≡ None → call_left d ≡ []
@@ -192,34 +314,38 @@ no_start w Rest e = refl
 no_start w (Start s lane b call) e = absurd (none-some (event.Start s lane call) (sym e))
 no_start w (Finish s) e = refl
 no_start w (Repeat x k) e = refl
+no_start w (Give key n b) e = refl
+no_start w (Order slot n) e = refl
+no_start w (Merge slot) e = refl
+no_start w Drop e = refl
 
 -- ---- an event
-event_of : (w : World) (r : Run) (e : Event) (d : Doing) → IsRunOf w r → MayHappen r.world e [] → IsRunOf w (with_event r e (does r.world e []) d)
+event_of : (w : World) (r : Run) (e : Event) (d : Doing) → IsRunOf w r → MayHappen r.world e no_heirs → IsRunOf w (with_event r e (does r.world e no_heirs) d)
 event_of w r e d h may = record {
-  es = h.es ++ (e, []) ∷ [];
-  may = run_push w h.es (e, []) h.may (subst (λ (v : World). MayHappen v e []) h.world may);
-  world = ap (λ (v : World). (does v e []).world) h.world ∙ sym (after_push w h.es (e, []));
-  past = ap (λ (xs : List Happening). xs ++ happening e (does r.world e []) ∷ []) h.past
-      ∙ ap (λ (v : World). happenings w h.es ++ happening e (does v e []) ∷ []) h.world
-      ∙ sym (past_push w h.es (e, []));
+  es = h.es ++ (e, no_heirs) ∷ [];
+  may = run_push w h.es (e, no_heirs) h.may (subst (λ (v : World). MayHappen v e no_heirs) h.world may);
+  world = ap (λ (v : World). (does v e no_heirs).world) h.world ∙ sym (after_push w h.es (e, no_heirs));
+  past = ap (λ (xs : List Happening). xs ++ happening e (does r.world e no_heirs) ∷ []) h.past
+      ∙ ap (λ (v : World). happenings w h.es ++ happening e (does v e no_heirs) ∷ []) h.world
+      ∙ sym (past_push w h.es (e, no_heirs));
 }
 
 started_more : (xs : List Happening) (x : Happening) → calls_started (xs ++ x ∷ []) ≡ calls_started xs ++ call_started x.event
 started_more xs x =
     flat_map-append (λ (y : Happening). call_started y.event) xs (x ∷ []) ∙ ap (λ (ys : List CallLine). calls_started xs ++ ys) (append-nil (call_started x.event))
 
-pub event_going : (w : World) (lines : List Line) (r : Run) (e : Event) (d : Doing) → IsGoing w lines r → MayHappen r.world e [] → IsDoing d
-    → call_started e ++ call_left d ≡ call_left r.doing → IsGoing w lines (with_event r e (does r.world e []) d)
+pub event_going : (w : World) (lines : List Line) (r : Run) (e : Event) (d : Doing) → IsGoing w lines r → MayHappen r.world e no_heirs → IsDoing d
+    → call_started e ++ call_left d ≡ call_left r.doing → IsGoing w lines (with_event r e (does r.world e no_heirs) d)
 event_going w lines r e d g may fits starts =
     let a : List CallLine = calls_started r.past in
     let b : List CallLine = call_started e in
     let c : List CallLine = calls_left r.lines in record {
       of = event_of w r e d g.of may;
-      sound = kept r.world e [] g.sound may;
+      sound = kept r.world e no_heirs g.sound may;
       own = calls_kept r.world e g.sound may g.own;
       doing = fits;
       left = g.left;
-      starts = ap (λ (xs : List CallLine). xs ++ (call_left d ++ c)) (started_more r.past (happening e (does r.world e [])))
+      starts = ap (λ (xs : List CallLine). xs ++ (call_left d ++ c)) (started_more r.past (happening e (does r.world e no_heirs)))
           ∙ append_assoc a b (call_left d ++ c)
           ∙ ap (λ (xs : List CallLine). a ++ xs) (sym (append_assoc b (call_left d) c))
           ∙ ap (λ (xs : List CallLine). a ++ (xs ++ c)) starts
@@ -264,7 +390,7 @@ acts_going : (w : World) (lines : List Line) (r : Run) (n : Option Event) → ne
 acts_going w lines r None e g = begins_going w lines r r.lines refl e g
 acts_going w lines r (Some x) e g =
     let may : MayGo r.world r.doing x = may_go r.world r.doing x g.doing g.own e in
-    event_going w lines r x (left_of r.doing (does r.world x []).outcome) g may.may (may.left (does r.world x []).outcome) (may.starts (does r.world x []).outcome)
+    event_going w lines r x (left_of r.world r.doing (does r.world x no_heirs).outcome) g may.may (may.left (does r.world x no_heirs).outcome) (may.starts (does r.world x no_heirs).outcome)
 
 steps_going : (w : World) (lines : List Line) (r : Run) (s : Option ℕ) → loader r ≡ s → IsGoing w lines r → IsGoing w lines (steps r s)
 steps_going w lines r None e g = acts_going w lines r (next_of r.world r.doing) refl g

@@ -36,7 +36,7 @@ use Rattle.dn_waiting.specs.declared.calls.Next.TheVariants.{Rest, Tend, Try}
 use Rattle.dn_waiting.specs.declared.calls.OpenCall.{OpenCall}
 use Rattle.dn_outcomes.specs.Does.{queues, adds_lane, adds, does}
 use Rattle.dn_outcomes.specs.Going.{called, goes_on, told_of, end_of, ends_by, ends_of, ends}
-use Rattle.dn_outcomes.specs.Orders.{leaves_by, release_at, release, fenced_by, unlive, orders_by, orders_of, monitor, may_order, gives_beside, give}
+use Rattle.dn_outcomes.specs.Orders.{leaves_by, release_at, release, fenced_by, unlive, orders_by, orders_of, monitor, may_order, gives_beside, give, drops}
 use Rattle.dn_outcomes.specs.Runs.{after}
 use Rattle.dn_outcomes.specs.Starts.{session_at, route_in, routes_by, routes, start_unless, start_beside, start, refresh_of, refresh}
 use Rattle.dn_outcomes.specs.State.{World, Done, done, with_event, with_waiting, is_made, may_name, on_lane}
@@ -350,6 +350,7 @@ hears w (event.Merge n) heirs o = on_lane_hears w n (merge w n) (merge_hears w n
 hears w event.Monitor heirs o = same_by w.machine.callers (monitor w).world.machine.callers (monitor_same w)
 hears w (event.Refresh s) heirs o = refresh_hears w s
 hears w (event.Give order) heirs o = same_by w.machine.callers (give w order heirs).world.machine.callers (give_same w order heirs)
+hears w event.DropOrder heirs o = same_by w.machine.callers (drops w).world.machine.callers refl
 hears w (event.Queue n t) heirs o = on_lane_hears w n (queues w n t (w.machine.lanes n)) (queues_hears w n t (w.machine.lanes n))
 hears w event.Add heirs o = same_by w.machine.callers (adds w).world.machine.callers (adds_same w)
 hears w (event.Tell s t) heirs o = absurd o
@@ -358,6 +359,7 @@ hears w (event.Tell s t) heirs o = absurd o
 abbrev pub IsOfLanes : Event → Type 0
 IsOfLanes event.Monitor = Unit {0}
 IsOfLanes (event.Give order) = Unit {0}
+IsOfLanes event.DropOrder = Unit {0}
 IsOfLanes event.Add = Unit {0}
 IsOfLanes other = ⊥
 
@@ -372,6 +374,7 @@ quiet_same w (event.Merge n) heirs o = absurd o
 quiet_same w event.Monitor heirs o = monitor_same w
 quiet_same w (event.Refresh s) heirs o = absurd o
 quiet_same w (event.Give order) heirs o = give_same w order heirs
+quiet_same w event.DropOrder heirs o = refl
 quiet_same w (event.Queue n t) heirs o = absurd o
 quiet_same w event.Add heirs o = adds_same w
 quiet_same w (event.Tell s t) heirs o = absurd o

@@ -107,6 +107,7 @@ event_known w (event.Merge n) heirs k h may are kn = untold_known w (event.Merge
 event_known w event.Monitor heirs k h may are kn = untold_known w event.Monitor heirs k h may tt kn
 event_known w (event.Refresh s) heirs k h may are kn = untold_known w (event.Refresh s) heirs k h may tt kn
 event_known w (event.Give o) heirs k h may are kn = untold_known w (event.Give o) heirs k h may tt kn
+event_known w event.DropOrder heirs k h may are kn = untold_known w event.DropOrder heirs k h may tt kn
 event_known w (event.Queue n t) heirs k h may are kn = untold_known w (event.Queue n t) heirs k h may tt kn
 event_known w event.Add heirs k h may are kn = untold_known w event.Add heirs k h may tt kn
 event_known w (event.Tell s t) heirs k h may are kn = tell_so w s t heirs k h may.1 are kn

@@ -202,6 +202,7 @@ plain w (event.Merge n) heirs o = on_lane_plain w n (merge w n) (merge_plain w n
 plain w event.Monitor heirs o = monitor_plain w
 plain w (event.Refresh s) heirs o = refresh_plain w s
 plain w (event.Give order) heirs o = give_plain w order heirs
+plain w event.DropOrder heirs o = tt
 plain w (event.Queue n t) heirs o = on_lane_plain w n (queues w n t (w.machine.lanes n)) (queues_plain w n t (w.machine.lanes n))
 plain w event.Add heirs o = adds_plain w
 plain w (event.Tell s t) heirs o = tells_plain w s t

@@ -1,3 +1,4 @@
+pub mod Moving
 pub mod Doing
 pub mod Happening
 pub mod Run

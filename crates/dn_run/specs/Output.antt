@@ -15,7 +15,6 @@ use Rattle.dn_print.specs.declared.summary_lines.LaneState.TheVariants.{Live, Fe
 use Rattle.dn_waiting.specs.Stops.{waiting_from}
 use Rattle.dn_run.specs.Counts.{counts_of}
 use Rattle.dn_run.specs.Run.{Run}
-use Rattle.dn_run.specs.Text.{events_text}
 use Rattle.dn_run.specs.declared.counts.Counts.{Counts}
 
 -- What is printed of a run that is over: its event lines; a line for each call without an answer, in order of session; the
@@ -64,7 +63,7 @@ summary_text r words history =
 
 -- ---- all event lines, and behind them all else, by the words that are left at the end
 abbrev pub all_events_text : Run → List ℕ
-all_events_text r = events_text r.past ++ unanswered_text (unanswered_in r.world)
+all_events_text r = r.printed ++ unanswered_text (unanswered_in r.world)
 
 abbrev pub output_of : Run → List ℕ → List Standing → List ℕ
 output_of r words history = all_events_text r ++ (history_text history ++ summary_text r words history)

@@ -7,23 +7,28 @@ use Rattle.dn_outcomes.specs.declared.events.Event.TheVariants.{Start, Step, Ref
 use Rattle.dn_outcomes.specs.declared.outcomes.Outcome.{Outcome}
 use Rattle.dn_outcomes.specs.declared.outcomes.Outcome.TheVariants.{Answered}
 use Rattle.dn_script.specs.declared.scripts.Line.{Line}
-use Rattle.dn_run.specs.Doing.{Doing, Rest, doing_of, next_of, left_of}
+use Rattle.dn_monitor.specs.Heirs.{no_heirs}
+use Rattle.dn_run.specs.Doing.{Doing, Rest, doing_of, next_of, left_of, order_after}
 use Rattle.dn_run.specs.Happening.{Happening, happening, loads}
+use Rattle.dn_run.specs.Text.{happening_text}
+use Rattle.dn_run.specs.declared.orders.MoveOrder.{MoveOrder}
 
 -- A run of a script's lines: event after event over a world.
 
--- A world; the session whose call the last event has moved, if any; what is left to do of the line under way; the lines that
--- follow it; and what has happened so far.
+-- A world; the session whose call the last event has moved, if any; the order of a move that is under way, if any; what is left
+-- to do of the line under way; the lines that follow it; what has happened so far; and what was printed of that.
 pub record Run : Type 0 where
   pub world : World
   pub mover : Option ℕ
+  pub order : Option MoveOrder
   pub doing : Doing
   pub lines : List Line
   pub past : List Happening
+  pub printed : List ℕ
 
 -- before the first line
 abbrev pub run_of : World → List Line → Run
-run_of w lines = record { world = w; mover = None; doing = Rest; lines = lines; past = [] }
+run_of w lines = record { world = w; mover = None; order = None; doing = Rest; lines = lines; past = []; printed = [] }
 
 -- ---- the session whose call an event moves
 abbrev pub answered_to : Outcome → Option ℕ
@@ -53,16 +58,18 @@ abbrev pub with_event : Run → Event → Done → Doing → Run
 with_event r e d doing = record {
   world = d.world;
   mover = mover_of e d.outcome;
+  order = order_after r.doing r.order e d.outcome;
   doing = doing;
   lines = r.lines;
   past = r.past ++ happening e d ∷ [];
+  printed = r.printed ++ happening_text r.order (happening e d);
 }
 
 abbrev pub loads_deed : Run → ℕ → Run
-loads_deed r s = with_event r (Refresh s) (does r.world (Refresh s) []) r.doing
+loads_deed r s = with_event r (Refresh s) (does r.world (Refresh s) no_heirs) r.doing
 
 abbrev pub goes_on : Run → Event → Done → Run
-goes_on r e d = with_event r e d (left_of r.doing d.outcome)
+goes_on r e d = with_event r e d (left_of r.world r.doing d.outcome)
 
 -- ---- or the next line begins, where there is one
 abbrev pub begins : Run → List Line → Run
@@ -72,7 +79,7 @@ begins r (line ∷ lines) = record r { doing = doing_of line; lines = lines }
 -- ---- A step of a run is one of these three.
 abbrev pub acts : Run → Option Event → Run
 acts r None = begins r r.lines
-acts r (Some e) = goes_on r e (does r.world e [])
+acts r (Some e) = goes_on r e (does r.world e no_heirs)
 
 abbrev pub steps : Run → Option ℕ → Run
 steps r None = acts r (next_of r.world r.doing)

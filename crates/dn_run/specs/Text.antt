@@ -1,15 +1,19 @@
 use Rattle.std.specs.Prelude.{ℕ, ◌++◌, Bool, true, false, List, [], Option, Some, None}
-use Rattle.std.specs.List.{flat_map}
 use Rattle.dn_hist.specs.declared.receipts.Receipt.{Receipt}
+use Rattle.dn_monitor.specs.declared.orders.Order.{Order}
+use Rattle.dn_monitor.specs.declared.orders.Order.TheVariants as order
 use Rattle.dn_outcomes.specs.declared.events.Event.{Event}
-use Rattle.dn_outcomes.specs.declared.events.Event.TheVariants.{Start, Step, Flow, Merge, Refresh, Queue, Add}
+use Rattle.dn_outcomes.specs.declared.events.Event.TheVariants as event
 use Rattle.dn_outcomes.specs.declared.outcomes.CallAnswer.{CallAnswer}
 use Rattle.dn_outcomes.specs.declared.outcomes.CallAnswer.TheVariants as answer
 use Rattle.dn_outcomes.specs.declared.outcomes.Outcome.{Outcome}
 use Rattle.dn_outcomes.specs.declared.outcomes.Outcome.TheVariants as outcome
 use Rattle.dn_print.specs.CallLine.{made_text, event_text}
+use Rattle.dn_print.specs.OrderLine.{busy_text}
 use Rattle.dn_print.specs.declared.call_lines.EventLine.TheVariants as line
 use Rattle.dn_run.specs.Happening.{Happening}
+use Rattle.dn_run.specs.Moving.{monitor_text, dropped_text}
+use Rattle.dn_run.specs.declared.orders.MoveOrder.{MoveOrder}
 
 -- The event lines: what is printed of what has happened.
 
@@ -64,18 +68,32 @@ add_text (outcome.Added lane) = event_text (line.Lane lane)
 add_text outcome.LanesFull = event_text line.LanesFull
 add_text other = []
 
-abbrev pub text_of : Event → Option Receipt → Outcome → List ℕ
-text_of (Start s lane call) receipt o = start_text s lane o
-text_of (Step n) receipt o = step_text n receipt o
-text_of (Flow n index) receipt o = no_lane_text n o
-text_of (Merge n) receipt o = no_lane_text n o
-text_of (Refresh s) receipt o = load_text o
-text_of (Queue n task) receipt o = no_lane_text n o
-text_of Add receipt o = add_text o
-text_of other receipt o = []
+-- an order is given
+abbrev pub target_text : Order → List ℕ
+target_text (order.Format segments) = []
+target_text (order.Look slot) = []
+target_text (order.Move slot to) = event_text (line.NoLane to)
+target_text (order.Fence n) = event_text (line.NoLane n)
+target_text (order.Takeover n) = event_text (line.NoLane n)
 
-abbrev pub happening_text : Happening → List ℕ
-happening_text x = text_of x.event x.receipt x.outcome
+abbrev pub give_text : Order → Outcome → List ℕ
+give_text order outcome.MonitorBusy = busy_text
+give_text order outcome.NoLane = target_text order
+give_text order other = []
 
-abbrev pub events_text : List Happening → List ℕ
-events_text past = flat_map happening_text past
+-- where this order of a move is under way
+abbrev pub text_of : Option MoveOrder → Event → Option Receipt → Outcome → List ℕ
+text_of m (event.Start s lane call) receipt o = start_text s lane o
+text_of m (event.Step n) receipt o = step_text n receipt o
+text_of m (event.Flow n index) receipt o = no_lane_text n o
+text_of m (event.Merge n) receipt o = no_lane_text n o
+text_of m event.Monitor receipt o = monitor_text m o
+text_of m (event.Refresh s) receipt o = load_text o
+text_of m (event.Give order) receipt o = give_text order o
+text_of m event.DropOrder receipt o = dropped_text m
+text_of m (event.Queue n task) receipt o = no_lane_text n o
+text_of m event.Add receipt o = add_text o
+text_of m (event.Tell s t) receipt o = []
+
+abbrev pub happening_text : Option MoveOrder → Happening → List ℕ
+happening_text m x = text_of m x.event x.receipt x.outcome

@@ -8,5 +8,7 @@
 
 mod counts;
 pub mod laws;
+mod orders;
 
 pub use counts::Counts;
+pub use orders::MoveOrder;

@@ -99,4 +99,4 @@ line_count bytes = count_by (λ b. nat_eq b 10) bytes + (if is_whole bytes then 
 abbrev pub played : List Verb
 played =
     verb.Pool ∷ verb.Nodes ∷ verb.Get ∷ verb.Put ∷ verb.Delete ∷ verb.Lane ∷ verb.Sessions ∷ verb.Start ∷ verb.Step ∷ verb.Flow
-    ∷ verb.Merge ∷ verb.Add ∷ verb.Tell ∷ verb.Trim ∷ []
+    ∷ verb.Merge ∷ verb.Monitor ∷ verb.Add ∷ verb.Move ∷ verb.Tell ∷ verb.Trim ∷ []

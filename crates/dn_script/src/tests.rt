@@ -255,9 +255,10 @@ fn what_is_played(rt: HostRuntime) -> Result<(), Fail> {
             "step 1 2\nflow 1 0\nmerge 2\nadd\ntell 1 2\ntrim 63\n",
             None,
         ),
+        ("move 5 1\nstart move 5 2\nmonitor\nmonitor 3\n", None),
         ("cache 5\n", Some((1, Cause::Verb))),
-        ("monitor\n", Some((1, Cause::Verb))),
-        ("start move 5 1\n", Some((1, Cause::Verb))),
+        ("balance\n", Some((1, Cause::Verb))),
+        ("start takeover 1\n", Some((1, Cause::Verb))),
         ("mix 1 2\n", Some((1, Cause::Verb))),
         ("c1001 get 5\n", Some((1, Cause::Session))),
     ] {

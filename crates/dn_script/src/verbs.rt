@@ -36,7 +36,7 @@ pub enum Verb {
 }
 
 /// What is played so far.
-pub const PLAYED: [Verb; 14] = [
+pub const PLAYED: [Verb; 16] = [
     Verb::Pool,
     Verb::Nodes,
     Verb::Get,
@@ -48,7 +48,9 @@ pub const PLAYED: [Verb; 14] = [
     Verb::Step,
     Verb::Flow,
     Verb::Merge,
+    Verb::Monitor,
     Verb::Add,
+    Verb::Move,
     Verb::Tell,
     Verb::Trim,
 ];

@@ -20,7 +20,6 @@ use Rattle.dn_print.specs.SummaryLine.{lane_text}
 use Rattle.dn_run.specs.Counts.{counts_of}
 use Rattle.dn_run.specs.Output.{all_events_text, history_text, lanes_text, lane_line, state_by, unanswered_text, unanswered_in}
 use Rattle.dn_run.specs.Run.{Run}
-use Rattle.dn_run.specs.Text.{events_text}
 use Rattle.dn_run.specs.declared.counts.Counts.{Counts}
 use Rattle.dn_report.specs.Counted.{counted_by}
 use Rattle.dn_route.specs.CallersOrder.{Told}
@@ -89,7 +88,7 @@ waiting_of w lines words p old r at = ap (λ (x : World). waiting_from 0 x.waiti
 
 pub events_printed : (w : World) (lines : List Line) (words : List ℕ) (p : Player) (old mid : List ℕ) (r : Run) (calls : List (ℕ × ℕ)) → IsAt w lines words p old r → calls ≡ waiting_from 0 p.world.crew.waiting.calls → mid ≡ old ++ unanswered_text calls → mid ≡ all_events_text r
 events_printed w lines words p old mid r calls at are printed =
-    printed ∙ ap (λ (o : List ℕ). o ++ unanswered_text calls) at.printed ∙ ap (λ (cs : List (ℕ × ℕ)). events_text r.past ++ unanswered_text cs) (are ∙ waiting_of w lines words p old r at)
+    printed ∙ ap (λ (o : List ℕ). o ++ unanswered_text calls) at.printed ∙ ap (λ (cs : List (ℕ × ℕ)). r.printed ++ unanswered_text cs) (are ∙ waiting_of w lines words p old r at)
 
 -- ---- all is done
 abbrev pub keys : List Standing → ℕ

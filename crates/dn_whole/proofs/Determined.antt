@@ -4,7 +4,6 @@ use Rattle.dn_callers.specs.Callers.{Standing}
 use Rattle.dn_run.specs.Headline.{IsHeadline}
 use Rattle.dn_run.specs.Output.{output_of, all_events_text}
 use Rattle.dn_run.specs.Run.{Run}
-use Rattle.dn_run.specs.Text.{events_text}
 use Rattle.dn_script.specs.declared.scripts.Script.{Script}
 use Rattle.dn_world.specs.Drains.{DrainsAll, FillsIndex}
 use Rattle.dn_world.proofs.Draining.{same_all, same_full, fills_not_all}
@@ -34,7 +33,7 @@ both_long script before other now fin out last h k one =
     let run : h.run ≡ k.run = same_long h.run k.run one same h.more k.more in record {
       ends = refl;
       words = sym h.words ∙ ap (λ (r : Run). r.world.machine.words) run ∙ k.words;
-      outputs = h.output ∙ ap (λ (r : Run). events_text r.past) run ∙ sym k.output;
+      outputs = h.output ∙ ap (λ (r : Run). r.printed) run ∙ sym k.output;
     }
 
 both_full : (script : Script) (before other now fin out last : List ℕ) → (h : IsFullAtEnd script before now out) → (k : IsFullAtEnd script other fin last) → AreOfOne h.run k.run

@@ -3,6 +3,7 @@ use Rattle.std.proofs.lemmas.Bool.{cases_eq, cases_lt}
 use Rattle.std.proofs.lemmas.List.{length_push}
 use Rattle.std.proofs.lemmas.Option.{none-some}
 use Rattle.dn_act.specs.Words.{IsZeros}
+use Rattle.dn_monitor.specs.Heirs.{no_heirs}
 use Rattle.dn_outcomes.specs.Does.{does}
 use Rattle.dn_outcomes.specs.State.{World, Done}
 use Rattle.dn_outcomes.specs.declared.events.Event.{Event}
@@ -46,11 +47,11 @@ begins_past r (l ∷ ls) = refl
 
 acts_past : (r : Run) (e : Option Event) → length r.past ≤ length (acts r e).past
 acts_past r None = (let same = ap (λ (xs : List Happening). length xs) (begins_past r r.lines) in omega (arith, same))
-acts_past r (Some e) = (let more = pushed r e (does r.world e []) (left_of r.doing (does r.world e []).outcome) in omega (arith, more))
+acts_past r (Some e) = (let more = pushed r e (does r.world e no_heirs) (left_of r.world r.doing (does r.world e no_heirs).outcome) in omega (arith, more))
 
 steps_past : (r : Run) (s : Option ℕ) → length r.past ≤ length (steps r s).past
 steps_past r None = acts_past r (next_of r.world r.doing)
-steps_past r (Some s) = (let more = pushed r (Refresh s) (does r.world (Refresh s) []) r.doing in omega (arith, more))
+steps_past r (Some s) = (let more = pushed r (Refresh s) (does r.world (Refresh s) no_heirs) r.doing in omega (arith, more))
 
 past_on : (m n : ℕ) (r : Run) → n ≤ m → length (after_steps n r).past ≤ length (after_steps m r).past
 past_on zero n r le = (let e : n ≡ zero = omega (arith, le) in let same = ap (λ (i : ℕ). length (after_steps i r).past) e in omega (arith, same))
@@ -63,10 +64,10 @@ past_on (suc m) n r le = elim (cases_eq n (suc m)) [
 next_past : (r : Run) (s : Option ℕ) → loader r ≡ s → HasNext r → length r.past < length (steps r s).past
 next_past r None e more =
     let x = more e in
-    let by : length (acts r (Some x.0)).past ≡ length r.past + 1 = pushed r x.0 (does r.world x.0 []) (left_of r.doing (does r.world x.0 []).outcome) in
+    let by : length (acts r (Some x.0)).past ≡ length r.past + 1 = pushed r x.0 (does r.world x.0 no_heirs) (left_of r.world r.doing (does r.world x.0 no_heirs).outcome) in
     let same = ap (λ (o : Option Event). length (acts r o).past) x.1 in
     omega (arith, by, same)
-next_past r (Some s) e more = (let by = pushed r (Refresh s) (does r.world (Refresh s) []) r.doing in omega (arith, by))
+next_past r (Some s) e more = (let by = pushed r (Refresh s) (does r.world (Refresh s) no_heirs) r.doing in omega (arith, by))
 
 grows : (m n : ℕ) (r : Run) → m < n → HasNext (after_steps m r) → length (after_steps m r).past < length (after_steps n r).past
 grows m n r lt more =

@@ -3,7 +3,6 @@ use Rattle.std.proofs.lemmas.List.Elements.{All-nil, All-cons, All-append, All-r
 use Rattle.dn_callers.specs.Callers.{Callers}
 use Rattle.dn_monitor.specs.Heirs.{no_heirs}
 use Rattle.dn_monitor.specs.declared.orders.Order.TheVariants.{Move}
-use Rattle.dn_outcomes.specs.Runs.{after}
 use Rattle.dn_outcomes.specs.State.{World, opened}
 use Rattle.dn_outcomes.specs.declared.events.Event.{Event}
 use Rattle.dn_outcomes.specs.declared.events.Event.TheVariants.{Add, Give, Monitor}

@@ -10,7 +10,6 @@ use Rattle.dn_run.specs.Headline.{IsHeadline}
 use Rattle.dn_run.specs.Knowledge.{KnowsSo}
 use Rattle.dn_run.specs.Output.{output_of, all_events_text}
 use Rattle.dn_run.specs.Run.{Run, IsOver, run_of, after_steps}
-use Rattle.dn_run.specs.Text.{events_text}
 use Rattle.dn_script.specs.declared.scripts.Script.{Script}
 use Rattle.dn_world.specs.Drains.{DrainsAll, FillsIndex}
 use Rattle.dn_world.specs.Opening.{IsOpened}
@@ -63,7 +62,7 @@ pub record IsLong (script : Script) (before now out : List ℕ) : Type 0 where
   pub history : List Standing
   pub headline : IsHeadline script.lines run now history
   pub knows : KnowsSo run
-  pub output : out ≡ events_text run.past
+  pub output : out ≡ run.printed
 
 -- All lines are played, and a merger finds the index full: all mergers before it are done. The output are the event lines, with
 -- those of calls without an answer; the headline holds of what stands then.

@@ -6,6 +6,7 @@ pub mod Refreshing
 pub mod LaneActs
 pub mod TakingUp
 pub mod Stepping
+pub mod Awaited
 pub mod Others
 pub mod Giving
 pub mod Events

@@ -20,7 +20,7 @@ use Rattle.dn_monitor.specs.declared.orders.MonitorTurn.TheVariants as monitorin
 use Rattle.dn_waiting.specs.Turns.{released}
 use Rattle.dn_outcomes.specs.Orders.{leaves_by, release_at, release, fenced_by, unlive, told_by as ordered_by, orders_by, orders_of, monitor}
 use Rattle.dn_outcomes.specs.declared.leaving.Leaving.{Leaving}
-use Rattle.dn_world.specs.Gives.{next_by}
+use Rattle.dn_outcomes.specs.Awaited.{next_by}
 use Rattle.dn_machine.specs.Events.{Monitor, ordered, of_monitor, monitor_does, happens, Merger, Acts, Flows, found, of_lane, of_merger, lane_flows, with_merger, acted as acted_by}
 use Rattle.dn_merge.specs.Merge.{merge_after}
 use Rattle.dn_cluster.specs.Acting.{flow_answer, flow_found, merger_answer, monitor_answer, monitor_found}

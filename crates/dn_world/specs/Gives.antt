@@ -1,6 +1,4 @@
-use Rattle.std.specs.Prelude.{◌≡◌, ℕ, List, Option, Some, None}
-use Rattle.dn_act.specs.declared.actions.Action.{Action}
-use Rattle.dn_monitor.specs.Monitor.{Monitoring, monitor_next}
+use Rattle.std.specs.Prelude.{◌≡◌, ℕ, List}
 use Rattle.dn_monitor.specs.Heirs.{no_heirs}
 use Rattle.dn_monitor.specs.declared.orders.Order.{Order}
 use Rattle.dn_monitor.specs.declared.orders.Order.TheVariants.{Takeover}
@@ -12,10 +10,6 @@ use Rattle.dn_world.specs.Comes.{Moves, bare}
 use Rattle.dn_world.specs.State.{CrewState}
 
 -- What the monitor is given.
-
-abbrev pub next_by : Option Monitoring → Option Action
-next_by None = None
-next_by (Some x) = monitor_next x
 
 -- An order is given, or refused. These are the lanes that a takeover gives the slots to; another order has no heirs.
 pub record IsGivenBy (words : List ℕ) (x y : CrewState) (outcome : Outcome) (o : Order) : Type 0 where

@@ -34,6 +34,7 @@ MayBeGivenTo x (event.Merge n) = Unit {0}
 MayBeGivenTo x event.Monitor = Unit {0}
 MayBeGivenTo x (event.Refresh s) = IsSession s
 MayBeGivenTo x (event.Give o) = IsOrder o × IsNoFormat o
+MayBeGivenTo x event.DropOrder = Unit {0}
 MayBeGivenTo x (event.Queue n t) = IsOwnTask t
 MayBeGivenTo x event.Add = Unit {0}
 MayBeGivenTo x (event.Tell s t) = IsSession s × IsSession t

@@ -11,6 +11,7 @@ ghost use Rattle.dn_hist.specs.declared.receipts.SessionView.{SessionView as Vie
 ghost use Rattle.dn_outcomes.specs.Going.{goes_on, ends, told_of, end_of, slot_at, called, is_given};
 ghost use Rattle.dn_outcomes.specs.Starts.{start, refresh, routes};
 ghost use Rattle.dn_outcomes.specs.State.{is_made, is_live, may_name, on_lane, with_event};
+ghost use Rattle.dn_outcomes.specs.Awaited.{next_by};
 ghost use Rattle.dn_outcomes.specs.Does.{queues, adds, tells};
 ghost use Rattle.dn_outcomes.specs.Orders.{monitor, release, unlive, may_order};
 ghost use Rattle.dn_outcomes.specs.Steps.{step, acts, by_turn, flow, merge, told_by as merged_by};
@@ -25,7 +26,7 @@ ghost use Rattle.dn_cluster.specs.Does.{Does, CanBeSound};
 ghost use Rattle.dn_waiting.specs.State.{call_of, at_lane};
 ghost use Rattle.dn_world.specs.State.{CrewState, world_of};
 ghost use Rattle.dn_world.specs.Comes.{CanBeWorld, Can, Turns, Moves, Carries, Comes, Keeps, bare, joining, OnDone, CountsFault, has_failed};
-ghost use Rattle.dn_world.specs.Gives.{IsGivenBy, next_by};
+ghost use Rattle.dn_world.specs.Gives.{IsGivenBy};
 ghost use Rattle.dn_world.specs.Happens.{MayBeGivenTo, HappensTo};
 ghost use Rattle.dn_world.specs.Inside.{stands_as};
 ghost use Rattle.dn_drain.specs.Acted.{LeavesActors};
@@ -35,6 +36,7 @@ ghost use Rattle.dn_drain.specs.Leaves.{LeavesLogs};
 ghost use Rattle.dn_world.specs.Opening.{MonitorFails};
 ghost use Rattle.dn_world.specs.Takes.{IsFree, Takes, begins_at, tends_at, tries_at, IsSessionOf};
 
+mod awaited;
 mod openings;
 
 use crate::leaving::{fenced_by, leaves_by, told_by};
@@ -117,6 +119,7 @@ impl Crew {
             Event::Monitor => self.monitor(mem),
             Event::Refresh { session } => self.refresh(mem, session),
             Event::Give { order } => self.give(order),
+            Event::DropOrder => self.end_order(),
             Event::Queue { lane, task } => self.queue(lane, task)?,
             Event::Add => self.add()?,
             Event::Tell { from, to } => self.tell(from, to),

@@ -1,12 +1,13 @@
 //! Which release the monitor's actions lead to, and which lane they fence.
 
 ghost use Rattle.std.specs.Prelude.{◌≡◌};
+ghost use Rattle.dn_outcomes.specs.Awaited.{marked_by, lane_below};
 ghost use Rattle.dn_outcomes.specs.Orders.{asks_to_leave, leaving, asked_by, held_at, held_by, leaves_by, fenced_by, told_by};
 
 use dn_act::Action;
 use dn_monitor::{MonitorAnswer, MonitorTurn};
 use dn_outcomes::{Leaving, Outcome};
-use dn_word::regions::{deed_at, gate_at};
+use dn_word::regions::{deed_at, gate_at, mark_at};
 use dn_word::{Deed, DeedState};
 
 /// Whether a deed in this state asks its lane to leave.
@@ -70,6 +71,23 @@ pub fn fenced_by(action: Option<Action>) -> Option<u32>
         Some(Action::Or { at, .. }) => Some(at.saturating_sub(gate_at(0))),
         _ => None,
     }
+}
+
+/// The lane whose merged mark the monitor loads by its next action, or 0.
+pub fn marked_by(next: Option<Action>) -> u8
+    ensures { result ≡ marked_by next }
+{
+    match next {
+        Some(Action::Load { at }) => lane_below(at.saturating_sub(mark_at(0))),
+        _ => 0,
+    }
+}
+
+/// The lane with this number, or 0 where there is none.
+fn lane_below(number: u32) -> u8
+    ensures { result ≡ lane_below number }
+{
+    if number < 64 { number as u8 } else { 0 }
 }
 
 /// What a monitor's turn is told as.

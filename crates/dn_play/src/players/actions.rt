@@ -1,6 +1,6 @@
 //! The actions of a line, but for a lane's step: an event each, whose outcome prints a line or none.
 
-ghost use Rattle.std.specs.Prelude.{◌≡◌, IfOk, IfErr, OnOk};
+ghost use Rattle.std.specs.Prelude.{◌≡◌, ◌<◌, IfOk, IfErr, OnOk};
 ghost use Rattle.dn_outcomes.specs.declared.events.Event.TheVariants as happens;
 ghost use Rattle.dn_tend.specs.declared.tasks.Task.TheVariants as task;
 ghost use Rattle.dn_play.specs.At.{CanGo, Goes, Halts, Awaits, left_by, CountsStop};
@@ -26,6 +26,7 @@ impl Player {
             (M.words mem.new) self.new out.new.items (Awaits (happens.Merge lane)) (left_by o)) }
         ensures halts { IfErr result (Halts (M.words mem.old) self.old out.old.items
             (M.words mem.new) self.new out.new.items (Awaits (happens.Merge lane))) }
+        ensures more { OnOk result (self.old.events < self.new.events) }
         ensures count { OnOk result (M.faults mem.new ≡ M.faults mem.old) }
         ensures faults { IfErr result (CountsStop (M.faults mem.old) (M.faults mem.new)) }
     {

@@ -4,16 +4,13 @@ ghost use Rattle.std.specs.Prelude.{◌≡◌, ◌<◌, ◌≤◌, ◌&&◌, ℕ
 ghost use Rattle.dn_act.specs.Action.{MayPerform};
 ghost use Rattle.dn_act.specs.Words.{IsZeros, pool_size};
 ghost use Rattle.dn_cluster.specs.Acting.{format_of};
-ghost use Rattle.dn_machine.specs.Events.{Drops};
 ghost use Rattle.dn_outcomes.specs.Orders.{monitor};
 ghost use Rattle.dn_outcomes.specs.Runs.{after};
-ghost use Rattle.dn_outcomes.specs.State.{with_event};
 ghost use Rattle.dn_ring.specs.Ring.{IsOwner};
 ghost use Rattle.std.specs.Option.{option_copied};
 ghost use Rattle.dn_callers.specs.Sessions.{IsSession};
 ghost use Rattle.dn_waiting.specs.State.{call_of};
 ghost use Rattle.dn_waiting.specs.Stops.{waiting_from};
-ghost use Rattle.dn_world.specs.Comes.{Turns};
 ghost use Rattle.dn_world.specs.Opening.{IsNew, MayGoOn, Leads, MayGrant, IsGranted, MayGrantAll, AreGranted, HasFormat, IsOpened, IsWhole, formatted, adds_for};
 ghost use Rattle.dn_world.specs.State.{world_of};
 
@@ -174,13 +171,6 @@ impl Crew {
             return false;
         }
         true
-    }
-
-    /// The monitor's order is dropped.
-    fn drop_order(&mut self)
-        ensures { Turns self.old self.new (λ w. with_event w Drops) }
-    {
-        self.cluster.drop_order();
     }
 
     /// The cluster.

@@ -1,11 +1,15 @@
 //! The opening of a world, and what can be seen of one.
 
-ghost use Rattle.std.specs.Prelude.{◌≡◌, ◌≤◌, IfOk, IfErr, OnOk, OnErr, [], map, length};
+ghost use Rattle.std.specs.Prelude.{◌≡◌, ◌≤◌, ℕ, List, IfOk, IfErr, OnOk, OnErr, [], map, length};
 ghost use Rattle.dn_act.specs.Words.{IsZeros, pool_size};
 ghost use Rattle.std.specs.Option.{option_copied};
 ghost use Rattle.dn_callers.specs.Sessions.{IsSession};
 ghost use Rattle.dn_waiting.specs.State.{call_of};
 ghost use Rattle.dn_waiting.specs.Stops.{waiting_from};
+ghost use Rattle.dn_callers.specs.Callers.{Standing as Stands};
+ghost use Rattle.dn_outcomes.specs.Awaited.{is_releasing, marked};
+ghost use Rattle.dn_route.specs.CallersOrder.{Told};
+ghost use Rattle.dn_world.specs.State.{world_of};
 ghost use Rattle.dn_world.specs.Happens.{CanBeSound};
 ghost use Rattle.dn_world.specs.Inside.{stands_as};
 ghost use Rattle.dn_world.specs.Opening.{HasFormat, IsOpened};
@@ -122,6 +126,23 @@ impl World {
         ensures { result.now ≡ self.now.crew.live }
     {
         self.crew.live()
+    }
+
+    /// Whether a lane has the release of a slot before it, and runs: a task is under way there, or the release waits.
+    pub fn is_releasing(&self, lane: u8, slot: u8) -> bool
+        requires { length self.now.crew.cluster.nodes ≤ 63 }
+        ensures { (words : List ℕ) (told : List Told) (receipts : List Stands)
+            → result ≡ is_releasing (world_of words self.now.crew told receipts) lane slot }
+    {
+        self.crew.is_releasing(lane, slot)
+    }
+
+    /// The lane whose merged mark the monitor loads by its next action, or 0 where it loads none.
+    pub fn marked(&self) -> u8
+        ensures { (words : List ℕ) (told : List Told) (receipts : List Stands)
+            → result ≡ marked (world_of words self.now.crew told receipts) }
+    {
+        self.crew.marked()
     }
 
     /// The receipts that stand, in the order in which they came, each with whether its session was answered it.

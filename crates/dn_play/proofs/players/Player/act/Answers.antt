@@ -25,6 +25,17 @@ returns-in-Merge-clause-halts g c =
 pub merge-requires : goal.merge-requires
 merge-requires g c = record { can = subst (λ (x : Action). CanGo (g.M.Memory.words c.args.mem.now) c.args.self.now c.args.out.now.items (Awaits (event_by x))) c.in-Merge.is c.requires.can }
 
+pub returns-in-Monitor-clause-goes : goal.returns-in-Monitor-clause-goes
+returns-in-Monitor-clause-goes g c =
+    subst (λ (x : Action). IfOk c.monitor.result (λ o. Goes (g.M.Memory.words c.args.mem.now) c.args.self.now c.args.out.now.items (g.M.Memory.words c.monitor.new.mem) c.monitor.new.self c.monitor.new.out.items (Awaits (event_by x)) (left_by o))) (sym c.in-Monitor.is) c.monitor.ensures.goes
+
+pub returns-in-Monitor-clause-halts : goal.returns-in-Monitor-clause-halts
+returns-in-Monitor-clause-halts g c =
+    subst (λ (x : Action). IfErr c.monitor.result (Halts (g.M.Memory.words c.args.mem.now) c.args.self.now c.args.out.now.items (g.M.Memory.words c.monitor.new.mem) c.monitor.new.self c.monitor.new.out.items (Awaits (event_by x)))) (sym c.in-Monitor.is) c.monitor.ensures.halts
+
+pub monitor-requires : goal.monitor-requires
+monitor-requires g c = record { can = subst (λ (x : Action). CanGo (g.M.Memory.words c.args.mem.now) c.args.self.now c.args.out.now.items (Awaits (event_by x))) c.in-Monitor.is c.requires.can }
+
 pub returns-in-Flow-clause-goes : goal.returns-in-Flow-clause-goes
 returns-in-Flow-clause-goes g c =
     subst (λ (x : Action). IfOk c.flow.result (λ o. Goes (g.M.Memory.words c.args.mem.now) c.args.self.now c.args.out.now.items (g.M.Memory.words c.flow.new.mem) c.flow.new.self c.flow.new.out.items (Awaits (event_by x)) (left_by o))) (sym c.in-Flow.is) c.flow.ensures.goes

@@ -38,6 +38,28 @@ pub returns-in-Merge-clause-halts : goal.returns-in-Merge-clause-halts
 returns-in-Merge-clause-halts g c =
     subst (λ (x : Line). IfErr c.repeat-in-Merge.result (Halts (g.M.Memory.words c.args.mem.now) c.args.self.now c.args.out.now.items (g.M.Memory.words c.repeat-in-Merge.new.mem) c.repeat-in-Merge.new.self c.repeat-in-Merge.new.out.items (Undone (doing_of x)))) (sym c.in-Merge.is) c.repeat-in-Merge.ensures.halts
 
+pub repeat-requires-in-Monitor : goal.repeat-requires-in-Monitor
+repeat-requires-in-Monitor g c = record { can = subst (λ (x : Line). CanGo (g.M.Memory.words c.args.mem.now) c.args.self.now c.args.out.now.items (Undone (doing_of x))) c.in-Monitor.is c.requires.can }
+
+pub returns-in-Monitor-clause-ends : goal.returns-in-Monitor-clause-ends
+returns-in-Monitor-clause-ends g c =
+    subst (λ (x : Line). OnOk c.repeat-in-Monitor.result (Ends (g.M.Memory.words c.args.mem.now) c.args.self.now c.args.out.now.items (g.M.Memory.words c.repeat-in-Monitor.new.mem) c.repeat-in-Monitor.new.self c.repeat-in-Monitor.new.out.items (Undone (doing_of x)))) (sym c.in-Monitor.is) c.repeat-in-Monitor.ensures.ends
+
+pub returns-in-Monitor-clause-halts : goal.returns-in-Monitor-clause-halts
+returns-in-Monitor-clause-halts g c =
+    subst (λ (x : Line). IfErr c.repeat-in-Monitor.result (Halts (g.M.Memory.words c.args.mem.now) c.args.self.now c.args.out.now.items (g.M.Memory.words c.repeat-in-Monitor.new.mem) c.repeat-in-Monitor.new.self c.repeat-in-Monitor.new.out.items (Undone (doing_of x)))) (sym c.in-Monitor.is) c.repeat-in-Monitor.ensures.halts
+
+pub move_slot-requires : goal.move_slot-requires
+move_slot-requires g c = record { can = subst (λ (x : Line). CanGo (g.M.Memory.words c.args.mem.now) c.args.self.now c.args.out.now.items (Undone (doing_of x))) c.in-Move.is c.requires.can }
+
+pub returns-in-Move-clause-ends : goal.returns-in-Move-clause-ends
+returns-in-Move-clause-ends g c =
+    subst (λ (x : Line). OnOk c.move_slot.result (Ends (g.M.Memory.words c.args.mem.now) c.args.self.now c.args.out.now.items (g.M.Memory.words c.move_slot.new.mem) c.move_slot.new.self c.move_slot.new.out.items (Undone (doing_of x)))) (sym c.in-Move.is) c.move_slot.ensures.ends
+
+pub returns-in-Move-clause-halts : goal.returns-in-Move-clause-halts
+returns-in-Move-clause-halts g c =
+    subst (λ (x : Line). IfErr c.move_slot.result (Halts (g.M.Memory.words c.args.mem.now) c.args.self.now c.args.out.now.items (g.M.Memory.words c.move_slot.new.mem) c.move_slot.new.self c.move_slot.new.out.items (Undone (doing_of x)))) (sym c.in-Move.is) c.move_slot.ensures.halts
+
 pub repeat-requires-in-Flow : goal.repeat-requires-in-Flow
 repeat-requires-in-Flow g c = record { can = subst (λ (x : Line). CanGo (g.M.Memory.words c.args.mem.now) c.args.self.now c.args.out.now.items (Undone (doing_of x))) c.in-Flow.is c.requires.can }
 
@@ -93,5 +115,7 @@ returns-in_default-clause-ends g c = record {
         add = c.in_default.not-Add;
         tell = c.in_default.not-Tell;
         trim = c.in_default.not-Trim;
+        monitor = c.in_default.not-Monitor;
+        move = c.in_default.not-Move;
       }) at may;
 }

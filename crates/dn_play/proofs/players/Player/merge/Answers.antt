@@ -14,7 +14,7 @@ pub returns-in-Ok-print_lane-clause-goes : goal.returns-in-Ok-print_lane-clause-
 returns-in-Ok-print_lane-clause-goes g c = record {
   is = λ w lines r at may.
       leads_quiet w lines (g.M.Memory.words c.args.mem.now) c.args.self.now c.args.out.now.items r (Merge c.args.lane) (g.M.Memory.words c.event.new.mem) c.event.new.self c.print_lane.new.out.items c.in-Ok.outcome at may
-      (c.in-Ok.ensures.gives.is w lines c.args.out.now.items r at tt) refl c.in-Ok-print_lane.ensures.ok;
+      (c.in-Ok.ensures.gives.is w lines c.args.out.now.items r at tt) refl refl c.in-Ok-print_lane.ensures.ok;
 }
 
 pub returns-in-Err-print_lane-clause-halts : goal.returns-in-Err-print_lane-clause-halts

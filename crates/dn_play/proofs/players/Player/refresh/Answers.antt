@@ -5,7 +5,7 @@ use Rattle.dn_script.specs.declared.scripts.Line.{Line}
 use Rattle.dn_run.specs.Run.{Run, loader}
 use Rattle.dn_play.specs.At.{IsAt, Stops}
 use Rattle.dn_play.specs.declared.players.Player.{Player}
-use Rattle.dn_play.proofs.More.{at_given}
+use Rattle.dn_play.proofs.More.{at_given, order_kept}
 use Rattle.dn_play.proofs.Printed.{on_ok, if_unprinted}
 use Rattle.dn_play.proofs.Stopping.{step_load, stops_event, load_more, leaves_event}
 use Rattle.dn_play.proofs.players.Player.refresh.Goals as goal
@@ -16,8 +16,9 @@ returns-clause-goes g c =
     let q : Player = c.event.new.self in
     let now : List ℕ = g.M.Memory.words c.event.new.mem in
     on_ok c.print_load.result (λ printed w lines r at.
-    at_given w lines (g.M.Memory.words c.args.mem.now) p c.args.out.now.items r (Refresh c.args.session) r.doing now q c.print_load.new.out.items c.in-Ok.outcome at c.requires.session at.going.doing refl
-    (c.in-Ok.ensures.gives.is w lines c.args.out.now.items r at c.requires.session) printed) c.print_load.ensures.ok
+    at_given w lines (g.M.Memory.words c.args.mem.now) p c.args.out.now.items r (Refresh c.args.session) r.doing now q q.order c.print_load.new.out.items c.in-Ok.outcome at c.requires.session at.going.doing refl
+    (c.in-Ok.ensures.gives.is w lines c.args.out.now.items r at c.requires.session)
+    (order_kept w lines (g.M.Memory.words c.args.mem.now) p c.args.out.now.items r (Refresh c.args.session) now q c.in-Ok.outcome at (c.in-Ok.ensures.gives.is w lines c.args.out.now.items r at c.requires.session) refl) printed) c.print_load.ensures.ok
 
 pub returns-clause-stops : goal.returns-clause-stops
 returns-clause-stops g c =

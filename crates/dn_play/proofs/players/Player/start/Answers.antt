@@ -1,4 +1,5 @@
-use Rattle.std.proofs.Common.{ℕ, List, [], refl}
+use Rattle.std.proofs.Common.{ℕ, List, refl}
+use Rattle.dn_monitor.specs.Heirs.{no_heirs}
 use Rattle.dn_outcomes.specs.Does.{does}
 use Rattle.dn_outcomes.specs.declared.events.Event.TheVariants.{Start}
 use Rattle.dn_run.specs.Doing.{left_of}
@@ -20,7 +21,7 @@ returns-in-Err-print_start-clause-halts g c =
     let now : List ℕ = g.M.Memory.words c.event.new.mem in record {
       is = λ w lines r at may.
           stops_print w lines now c.event.new.self c.print_start.new.out.items r c.in-Err-print_start.stop c.in-Err-print_start.ensures.want
-          (leaves_event r now c.args.self.now c.event.new.self (Start c.args.session c.args.named c.args.call) c.in-Ok.outcome (left_of r.doing (does r.world (Start c.args.session c.args.named c.args.call) []).outcome) (c.in-Ok.ensures.gives.is w lines c.args.out.now.items r at (next_may w lines (g.M.Memory.words c.args.mem.now) c.args.self.now c.args.out.now.items r (Start c.args.session c.args.named c.args.call) at may)) (step_next r (Start c.args.session c.args.named c.args.call) may));
+          (leaves_event r now c.args.self.now c.event.new.self (Start c.args.session c.args.named c.args.call) c.in-Ok.outcome (left_of r.world r.doing (does r.world (Start c.args.session c.args.named c.args.call) no_heirs).outcome) (c.in-Ok.ensures.gives.is w lines c.args.out.now.items r at (next_may w lines (g.M.Memory.words c.args.mem.now) c.args.self.now c.args.out.now.items r (Start c.args.session c.args.named c.args.call) at may)) (step_next r (Start c.args.session c.args.named c.args.call) may));
     }
 
 pub load-requires-clause-can : goal.load-requires-clause-can
@@ -30,8 +31,8 @@ load-requires-clause-can g c =
     let given = c.in-Ok.ensures.gives.is h.start h.lines c.args.out.now.items h.run h.at (next_may h.start h.lines (g.M.Memory.words c.args.mem.now) c.args.self.now c.args.out.now.items h.run (Start c.args.session c.args.named c.args.call) h.at h.may_go) in record {
       start = h.start;
       lines = h.lines;
-      run = goes_on h.run (Start c.args.session c.args.named c.args.call) (does h.run.world (Start c.args.session c.args.named c.args.call) []);
-      at = at_next h.start h.lines (g.M.Memory.words c.args.mem.now) c.args.self.now c.args.out.now.items h.run (Start c.args.session c.args.named c.args.call) now c.event.new.self c.print_start.new.out.items c.in-Ok.outcome h.at h.may_go given c.in-Ok-print_start.ensures.ok;
+      run = goes_on h.run (Start c.args.session c.args.named c.args.call) (does h.run.world (Start c.args.session c.args.named c.args.call) no_heirs);
+      at = at_next h.start h.lines (g.M.Memory.words c.args.mem.now) c.args.self.now c.args.out.now.items h.run (Start c.args.session c.args.named c.args.call) now c.event.new.self c.print_start.new.out.items c.in-Ok.outcome h.at h.may_go given refl c.in-Ok-print_start.ensures.ok;
       may_go = refl;
     }
 
@@ -42,10 +43,10 @@ returns-in-Ok-load-clause-goes g c =
     let e = Start c.args.session c.args.named c.args.call in record {
       is = λ w lines r at may.
           let given = c.in-Ok.ensures.gives.is w lines c.args.out.now.items r at (next_may w lines (g.M.Memory.words c.args.mem.now) c.args.self.now c.args.out.now.items r (Start c.args.session c.args.named c.args.call) at may) in
-          let x : Run = goes_on r e (does r.world e []) in
-          leads_left w lines now c.load.new.self c.load.new.out.items r x c.in-Ok.outcome (does r.world e []).outcome (step_next r e may) refl refl given.outcome
+          let x : Run = goes_on r e (does r.world e no_heirs) in
+          leads_left w lines now c.load.new.self c.load.new.out.items r x c.in-Ok.outcome (does r.world e no_heirs).outcome (step_next r e may) refl refl given.outcome
           (c.in-Ok-load.ensures.goes.is w lines x
-          (at_next w lines (g.M.Memory.words c.args.mem.now) c.args.self.now c.args.out.now.items r e mid c.event.new.self c.print_start.new.out.items c.in-Ok.outcome at may given c.in-Ok-print_start.ensures.ok)
+          (at_next w lines (g.M.Memory.words c.args.mem.now) c.args.self.now c.args.out.now.items r e mid c.event.new.self c.print_start.new.out.items c.in-Ok.outcome at may given refl c.in-Ok-print_start.ensures.ok)
           (refl));
     }
 
@@ -56,10 +57,10 @@ returns-in-Err-load-clause-halts g c =
     let e = Start c.args.session c.args.named c.args.call in record {
       is = λ w lines r at may.
           let given = c.in-Ok.ensures.gives.is w lines c.args.out.now.items r at (next_may w lines (g.M.Memory.words c.args.mem.now) c.args.self.now c.args.out.now.items r (Start c.args.session c.args.named c.args.call) at may) in
-          let x : Run = goes_on r e (does r.world e []) in
+          let x : Run = goes_on r e (does r.world e no_heirs) in
           stops_after w lines now c.load.new.self c.load.new.out.items r x c.in-Err-load.stop (step_next r e may)
           (c.in-Err-load.ensures.halts.is w lines x
-          (at_next w lines (g.M.Memory.words c.args.mem.now) c.args.self.now c.args.out.now.items r e mid c.event.new.self c.print_start.new.out.items c.in-Ok.outcome at may given c.in-Ok-print_start.ensures.ok)
+          (at_next w lines (g.M.Memory.words c.args.mem.now) c.args.self.now c.args.out.now.items r e mid c.event.new.self c.print_start.new.out.items c.in-Ok.outcome at may given refl c.in-Ok-print_start.ensures.ok)
           (refl));
     }
 

@@ -1,5 +1,6 @@
-use Rattle.std.proofs.Common.{ℕ, List, [], ◌++◌, refl, sym, ap, subst, ◌∙◌}
+use Rattle.std.proofs.Common.{ℕ, List, ◌++◌, refl, sym, ap, subst, ◌∙◌}
 use Rattle.std.proofs.lemmas.List.{append-nil}
+use Rattle.dn_monitor.specs.Heirs.{no_heirs}
 use Rattle.dn_outcomes.specs.Does.{does}
 use Rattle.dn_outcomes.specs.declared.events.Event.TheVariants.{Step}
 use Rattle.dn_outcomes.specs.declared.outcomes.Outcome.{Outcome}
@@ -18,8 +19,8 @@ returns-in-Ok-Acted-clause-goes g c =
           let given = c.in-Ok-Acted.ensures.gives.is w lines c.args.out.now.items r at tt in
           subst (λ (o : Outcome). Leads w lines (g.M.Memory.words c.event.new.mem) c.event.new.self c.args.out.now.items r (left_by o r)) c.in-Ok-Acted.field-0-is
           (leads_quiet w lines (g.M.Memory.words c.args.mem.now) c.args.self.now c.args.out.now.items r e (g.M.Memory.words c.event.new.mem) c.event.new.self c.args.out.now.items _ at may given
-          (ap answered_to (sym given.outcome ∙ c.in-Ok-Acted.field-0-is)) (sym (append-nil c.args.out.now.items)
-          ∙ ap (λ (o : Outcome). c.args.out.now.items ++ step_text c.args.lane (happening e (does r.world e [])).receipt o) (sym c.in-Ok-Acted.field-0-is)));
+          (ap answered_to (sym given.outcome ∙ c.in-Ok-Acted.field-0-is)) refl (sym (append-nil c.args.out.now.items)
+          ∙ ap (λ (o : Outcome). c.args.out.now.items ++ step_text c.args.lane (happening e (does r.world e no_heirs)).receipt o) (sym c.in-Ok-Acted.field-0-is)));
     }
 
 pub returns-in-Err-clause-halts : goal.returns-in-Err-clause-halts
@@ -35,7 +36,7 @@ end_step-requires-clause-can g c =
     let given = c.in-Ok.ensures.gives.is h.start h.lines c.args.out.now.items h.run h.at tt in record {
       start = h.start;
       lines = h.lines;
-      run = goes_on h.run (Step c.args.lane) (does h.run.world (Step c.args.lane) []);
+      run = goes_on h.run (Step c.args.lane) (does h.run.world (Step c.args.lane) no_heirs);
       at = stepped h.start h.lines (g.M.Memory.words c.args.mem.now) c.args.self.now c.args.out.now.items h.run c.args.lane now c.event.new.self _ c.in-Ok.outcome h.at h.may_go given refl;
       may_go = ap answered_to (sym given.outcome);
     }
@@ -52,8 +53,8 @@ returns-in-Ok-end_step-clause-goes g c =
     let e = Step c.args.lane in record {
       is = λ w lines r at may.
           let given = c.in-Ok.ensures.gives.is w lines c.args.out.now.items r at tt in
-          let x : Run = goes_on r e (does r.world e []) in
-          leads_left w lines now c.end_step.new.self c.end_step.new.out.items r x c.in-Ok.outcome (does r.world e []).outcome (step_next r e may) refl refl given.outcome
+          let x : Run = goes_on r e (does r.world e no_heirs) in
+          leads_left w lines now c.end_step.new.self c.end_step.new.out.items r x c.in-Ok.outcome (does r.world e no_heirs).outcome (step_next r e may) refl refl given.outcome
           (c.in-Ok-end_step.ensures.goes.is w lines x
           (stepped w lines (g.M.Memory.words c.args.mem.now) c.args.self.now c.args.out.now.items r c.args.lane mid c.event.new.self _ c.in-Ok.outcome at may given refl)
           (ap answered_to (sym given.outcome)));
@@ -66,7 +67,7 @@ returns-in-Err-end_step-clause-halts g c =
     let e = Step c.args.lane in record {
       is = λ w lines r at may.
           let given = c.in-Ok.ensures.gives.is w lines c.args.out.now.items r at tt in
-          let x : Run = goes_on r e (does r.world e []) in
+          let x : Run = goes_on r e (does r.world e no_heirs) in
           stops_after w lines now c.end_step.new.self c.end_step.new.out.items r x c.in-Err-end_step.stop (step_next r e may)
           (c.in-Err-end_step.ensures.halts.is w lines x
           (stepped w lines (g.M.Memory.words c.args.mem.now) c.args.self.now c.args.out.now.items r c.args.lane mid c.event.new.self _ c.in-Ok.outcome at may given refl)

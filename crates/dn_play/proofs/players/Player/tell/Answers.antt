@@ -14,7 +14,7 @@ pub returns-in-Ok-print_nothing-clause-goes : goal.returns-in-Ok-print_nothing-c
 returns-in-Ok-print_nothing-clause-goes g c = record {
   is = λ w lines r at may.
       leads_quiet w lines (g.M.Memory.words c.args.mem.now) c.args.self.now c.args.out.now.items r (Tell c.args.from c.args.to) (g.M.Memory.words c.event.new.mem) c.event.new.self c.print_nothing.new.out.items c.in-Ok.outcome at may
-      (c.in-Ok.ensures.gives.is w lines c.args.out.now.items r at (next_may w lines (g.M.Memory.words c.args.mem.now) c.args.self.now c.args.out.now.items r (Tell c.args.from c.args.to) at may)) refl c.in-Ok-print_nothing.ensures.ok;
+      (c.in-Ok.ensures.gives.is w lines c.args.out.now.items r at (next_may w lines (g.M.Memory.words c.args.mem.now) c.args.self.now c.args.out.now.items r (Tell c.args.from c.args.to) at may)) refl refl c.in-Ok-print_nothing.ensures.ok;
 }
 
 pub returns-in-Err-print_nothing-clause-halts : goal.returns-in-Err-print_nothing-clause-halts

@@ -100,6 +100,18 @@ returns-in-Give-clause-comes g c fine =
     (happens_by words x now y (bare c.give-outcome.result) e (c.give-outcome.ensures.came words).heirs (λ told receipts. ((subst (MayBeGivenTo x) c.in-Give.is c.requires.event).0, given_takes words x y c.give-outcome.result c.in-Give.order (c.give-outcome.ensures.came words) told receipts))
     (comes_moved words x y (bare c.give-outcome.result) (λ z. does z e (c.give-outcome.ensures.came words).heirs) (c.give-outcome.ensures.came words).is)))
 
+pub returns-in-DropOrder-clause-comes : goal.returns-in-DropOrder-clause-comes
+returns-in-DropOrder-clause-comes g c fine =
+    let words : List ℕ = g.M.Memory.words c.args.mem.now in
+    let x : CrewState = c.args.self.now in
+    let y : CrewState = c.end_order-outcome.new.self in
+    let now : List ℕ = words in
+    let e : Event = event.DropOrder in
+    keeps_none _ _ c.end_order-outcome.result (λ (came : Came). HappensTo words x now y came c.args.event) refl
+    (subst (λ (k : Event). HappensTo words x now y (bare c.end_order-outcome.result) k) (sym c.in-DropOrder.is)
+    (happens_by words x now y (bare c.end_order-outcome.result) e [] (λ told receipts. tt)
+    (comes_moved words x y (bare c.end_order-outcome.result) (λ z. does z e []) (c.end_order-outcome.ensures.came words))))
+
 pub returns-in_ok-outcome-in-Queue-clause-comes : goal.returns-in_ok-outcome-in-Queue-clause-comes
 returns-in_ok-outcome-in-Queue-clause-comes g c fine =
     let words : List ℕ = g.M.Memory.words c.args.mem.now in

@@ -11,7 +11,7 @@ use Rattle.dn_cluster.specs.declared.actors.Acted.{Acted}
 use Rattle.dn_outcomes.specs.Orders.{leaves_by, fenced_by, monitor, told_by}
 use Rattle.dn_outcomes.specs.declared.outcomes.Outcome.TheVariants as outcome
 use Rattle.dn_world.specs.Comes.{has_failed}
-use Rattle.dn_world.specs.Gives.{next_by}
+use Rattle.dn_outcomes.specs.Awaited.{next_by}
 use Rattle.dn_cluster.specs.State.{ClusterState}
 use Rattle.dn_world.specs.Inside.{state_of}
 use Rattle.dn_world.specs.Opening.{MonitorFails}
